@@ -1,0 +1,35 @@
+-- The check of the 0x32 is the start of the rest. Assumes nothing.
+use mathlib.Core.Path.{sym, ap₂, _∙_}
+use Prim.Native.Nat.{ℕ}
+use native.Mathlib.Omega.{arith}
+use borrow.Author.Needs.{needs}
+use lib.ListN.{take}
+use lib.Seq.{length-take-le}
+use Rattle.crc.specs.Check.{commandPolynomial, checkFrom}
+use Rattle.crc.proofs.Laws.{bytes-of, payload-check-from}
+use Rattle.crc.proofs.payload_check.Statement.{statement}
+use Rattle.crc.proofs.payload_check.Tie as tie
+
+but-last-requires : tie.Need-but-last-requires
+but-last-requires c κs = search needs
+
+slice-aggregate-check : tie.Need-slice-aggregate-check
+slice-aggregate-check c = sym (length-take-le _ _ (omega arith))
+
+eight-steps-requires : tie.Need-eight-steps-requires
+eight-steps-requires c κs = search needs
+
+check-requires : tie.Need-check-requires
+check-requires c κs = search needs
+
+returns : tie.Need-returns
+returns c =
+    let p = c .before .before .before .before .before .args .payload .now in
+    c .check .ensures
+    ∙ ap₂ (λ (s n : ℕ). checkFrom commandPolynomial s (take n p)) (c .before .eight-steps .ensures) (c .before .before .before .but-last .ensures)
+    ∙ sym (payload-check-from p (bytes-of p (c .before .before .before .before .shared-slice-known .given)))
+
+pub payload-check-spec : {M : Type 1} → statement M
+payload-check-spec =
+    tie.close
+    (tie.spec but-last-requires slice-aggregate-check eight-steps-requires check-requires returns)

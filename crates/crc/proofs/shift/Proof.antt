@@ -1,0 +1,26 @@
+use native.Mathlib.Omega.{arith}
+use Rattle.crc.proofs.Loops.{step-small, step-large}
+use borrow.Author.Needs.{needs}
+use Rattle.crc.proofs.shift.Statement.{statement}
+use Rattle.crc.proofs.shift.Tie as tie
+use Rattle.crc.proofs.shift.Reads as reads
+use Rattle.crc.proofs.shift.Lts as lts
+
+-- src/lib.rt:18:9
+mul-result : tie.Need-mul-result
+mul-result c = search needs
+
+-- src/lib.rt:20:9
+mul-result-2 : tie.Need-mul-result-2
+mul-result-2 c = search needs
+
+-- src/lib.rt:14:1
+returns : tie.Need-returns
+returns c = step-small _ _ (search needs)
+
+-- src/lib.rt:14:1
+returns-2 : tie.Need-returns-2
+returns-2 c = step-large _ _ (search needs) (search needs) (search needs)
+
+pub shift-spec : {M : Type 1} → statement M
+shift-spec = tie.close (tie.spec mul-result mul-result-2 returns returns-2)

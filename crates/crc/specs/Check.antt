@@ -1,0 +1,35 @@
+-- Document 01, "The payload and its check". Assumes nothing.
+use mathlib.Core.List.{List, [], _∷_}
+use Prim.Native.Nat.{ℕ, _+_, _*_, _-_, _^_, _<_}
+use lib.ListN.{length, take}
+use Rattle.crc.specs.Polynomial.{x, plus, remainder}
+
+-- "x^8+x^7+x^5+x^4+x^3+x"
+abbrev pub commandPolynomial : ℕ
+commandPolynomial = x ^ 8 + x ^ 7 + x ^ 5 + x ^ 4 + x ^ 3 + x
+
+-- every number of the list is a byte
+abbrev pub Bytes : List ℕ → Type 0
+Bytes [] = Unit
+Bytes (b ∷ bs) = (b < 256) × Bytes bs
+
+-- the bytes as one polynomial, "highest bit first": the first byte stands highest
+abbrev pub message : List ℕ → ℕ
+message [] = 0
+message (b ∷ bs) = plus (b * x ^ (8 * length bs)) (message bs)
+
+-- "the remainder of the message, times x^8, divided by" g; "start 0", "no final change"
+unfoldable pub checkOf : ℕ → List ℕ → ℕ
+checkOf g bs = remainder g (message bs * x ^ 8)
+
+-- From a start value s: s is added to the first byte of the message. Nothing follows an empty message, so its check is s.
+unfoldable pub checkFrom : ℕ → ℕ → List ℕ → ℕ
+checkFrom g s bs = remainder g (plus (s * x ^ (8 * length bs)) (message bs * x ^ 8))
+
+-- "all payload bytes but the last"
+abbrev pub allButLast : List ℕ → List ℕ
+allButLast p = take (length p - 1) p
+
+-- "The message is byte 0x32, then all payload bytes but the last."
+unfoldable pub payloadCheck : List ℕ → ℕ
+payloadCheck p = checkOf commandPolynomial (0x32 ∷ allButLast p)

@@ -1,0 +1,66 @@
+// The check of document 01, "The payload and its check": the Rust's COMMAND_CRC_ALGO, by bit.
+ghost use mathlib.Core.Path.{_≡_};
+ghost use Prim.Native.Nat.{_+_, _-_};
+ghost use Rattle.crc.specs.Check.{commandPolynomial, checkFrom, payloadCheck};
+ghost use Rattle.crc.specs.Steps.{step, steps};
+
+// x^8+x^7+x^5+x^4+x^3+x without its x^8.
+const COMMAND_POLYNOMIAL: u8 = 0xBA;
+
+// The frame type, first byte of the message.
+const COMMAND_TYPE: u8 = 0x32;
+
+// One step of the long division by x^8 + p.
+fn shift(p: u8, r: u8) -> u8
+    ensures { λ s. ⌜ s ≡ step (256 + p) r ⌝ }
+{
+    if r < 128 {
+        r * 2
+    } else {
+        (r - 128) * 2 ^ p
+    }
+}
+
+// The eight steps of one byte. The polynomial is a constant of this loop, which is how the compiler comes to make a table of it.
+fn eight_steps(r: u8) -> u8
+    ensures { λ s. ⌜ s ≡ steps commandPolynomial 8 r ⌝ }
+{
+    let mut s = r;
+    let mut i: usize = 0;
+    while i < 8 {
+        s = shift(COMMAND_POLYNOMIAL, s);
+        i += 1;
+    }
+    s
+}
+
+// The check of `bytes`, from the check `start` of what came before them, or from 0.
+pub fn check(bytes: &[u8], start: u8) -> u8
+    ensures { λ r. ⌜ r ≡ checkFrom commandPolynomial start (now (bytes .entry)) ⌝ }
+{
+    let mut r = start;
+    let mut i = 0;
+    while i < bytes.len() {
+        r = eight_steps(r ^ bytes[i]);
+        i += 1;
+    }
+    r
+}
+
+fn but_last(len: usize) -> usize
+    ensures { λ n. ⌜ n ≡ len - 1 ⌝ }
+{
+    if 0 < len {
+        len - 1
+    } else {
+        0
+    }
+}
+
+// The check that belongs into the last byte of `payload`, whatever stands there.
+pub fn payload_check(payload: &[u8]) -> u8
+    ensures { λ r. ⌜ r ≡ payloadCheck (now (payload .entry)) ⌝ }
+{
+    let end = but_last(payload.len());
+    check(&payload[..end], eight_steps(0 ^ COMMAND_TYPE))
+}
