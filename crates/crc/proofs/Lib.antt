@@ -5,3 +5,4 @@ pub mod Worked
 pub mod Loops
 pub mod Laws
 pub mod Examples
+pub mod OneAnswer

@@ -26,12 +26,12 @@ pub times-sum : (g a b : ℕ) → times (bitXor a b) g ≡ bitXor (times a g) (t
 unfolding times
 times-sum g =
     bin-ind (λ (n : ℕ). (b : ℕ) → times (bitXor n b) g ≡ bitXor (times n g) (times b g)) (λ b. refl)
-      (λ n ih b. times-step (bitXor n b) g
-        ∙ ap₂ bitXor
-            (ap (λ (x : ℕ). times x g * 2) (xor-half n b) ∙ ap (λ (x : ℕ). x * 2) (ih (b / 2)) ∙ xor-twice (times (n / 2) g) (times (b / 2) g))
-            (ap (λ (x : ℕ). x * g) (xor-odd n b) ∙ bit-times g (n % 2) (b % 2) (mod2 n) (mod2 b))
-        ∙ xor-swap (times (n / 2) g * 2) (times (b / 2) g * 2) (n % 2 * g) (b % 2 * g)
-        ∙ ap₂ bitXor (sym (times-step n g)) (sym (times-step b g)))
+    (λ n ih b. times-step (bitXor n b) g
+    ∙ ap₂ bitXor
+    (ap (λ (x : ℕ). times x g * 2) (xor-half n b) ∙ ap (λ (x : ℕ). x * 2) (ih (b / 2)) ∙ xor-twice (times (n / 2) g) (times (b / 2) g))
+    (ap (λ (x : ℕ). x * g) (xor-odd n b) ∙ bit-times g (n % 2) (b % 2) (mod2 n) (mod2 b))
+    ∙ xor-swap (times (n / 2) g * 2) (times (b / 2) g * 2) (n % 2 * g) (b % 2 * g)
+    ∙ ap₂ bitXor (sym (times-step n g)) (sym (times-step b g)))
 
 pub times-twice : (g q : ℕ) → times (q * 2) g ≡ times q g * 2
 times-twice g q = times-step (q * 2) g ∙ simp (twice-half, twice-odd, zero-mul, xor-zero-r)
@@ -52,19 +52,21 @@ module _ {g : ℕ} where
 
   pub alike-trans : {a b c : ℕ} → Alike g a b → Alike g b c → Alike g a c
   alike-trans {a} {b} {c} d e =
-      record
-        { by = bitXor (d .by) (e .by);
-          is = d .is ∙ ap (bitXor (times (d .by) g)) (e .is) ∙ sym (xor-assoc (times (d .by) g) (times (e .by) g) c)
-            ∙ ap (λ (x : ℕ). bitXor x c) (sym (times-sum g (d .by) (e .by))) }
+      record {
+        by = bitXor (d .by) (e .by);
+        is = d .is ∙ ap (bitXor (times (d .by) g)) (e .is) ∙ sym (xor-assoc (times (d .by) g) (times (e .by) g) c)
+            ∙ ap (λ (x : ℕ). bitXor x c) (sym (times-sum g (d .by) (e .by)));
+      }
 
   pub alike-plus : {a b : ℕ} (c : ℕ) → Alike g a b → Alike g (bitXor a c) (bitXor b c)
   alike-plus {a} {b} c d = record { by = d .by; is = ap (λ (x : ℕ). bitXor x c) (d .is) ∙ xor-assoc (times (d .by) g) b c }
 
   pub alike-twice : {a b : ℕ} → Alike g a b → Alike g (a * 2) (b * 2)
   alike-twice {a} {b} d =
-      record
-        { by = d .by * 2;
-          is = ap (λ (x : ℕ). x * 2) (d .is) ∙ xor-twice (times (d .by) g) b ∙ ap (λ (x : ℕ). bitXor x (b * 2)) (sym (times-twice g (d .by))) }
+      record {
+        by = d .by * 2;
+        is = ap (λ (x : ℕ). x * 2) (d .is) ∙ xor-twice (times (d .by) g) b ∙ ap (λ (x : ℕ). bitXor x (b * 2)) (sym (times-twice g (d .by)));
+      }
 
   pub alike-shift : (k : ℕ) {a b : ℕ} → Alike g a b → Alike g (a * 2 ^ k) (b * 2 ^ k)
   alike-shift zero {a} {b} h = simp mul-one h

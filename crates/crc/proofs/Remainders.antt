@@ -21,11 +21,12 @@ module _ {g : ℕ} (d : Degree8 g) where
   -- a polynomial of degree 8 or less, less g where its degree is 8
   pub reduced : (x : ℕ) → x < 512 → Remainder g x (bitXor x (x / 256 * g))
   reduced x h =
-      record
-        { quotient = x / 256;
-          sum = sym (ap (λ (y : ℕ). bitXor y (bitXor x (x / 256 * g))) (times-bit g (x / 256) (omega arith)) ∙ xor-back x (x / 256 * g));
-          low = below (bitXor x (x / 256 * g))
-            (xor-shr x (x / 256 * g) 8 ∙ ap (bitXor (x / 256)) (top (x / 256) (omega arith)) ∙ xor-self (x / 256)) }
+      record {
+        quotient = x / 256;
+        sum = sym (ap (λ (y : ℕ). bitXor y (bitXor x (x / 256 * g))) (times-bit g (x / 256) (omega arith)) ∙ xor-back x (x / 256 * g));
+        low = below (bitXor x (x / 256 * g))
+            (xor-shr x (x / 256 * g) 8 ∙ ap (bitXor (x / 256)) (top (x / 256) (omega arith)) ∙ xor-self (x / 256));
+      }
 
   divided : (n m : ℕ) → m ≤ n → Remainder g m (remainderIn n g m)
   unfolding times
@@ -58,13 +59,13 @@ module _ {g : ℕ} (d : Degree8 g) where
   high : (q : ℕ) → times q g < 256 → q ≡ 0
   high =
       bin-ind (λ (n : ℕ). times n g < 256 → n ≡ 0) (λ h. refl)
-        (λ n ih h.
-          let e : times n g / 512 ≡ times (n / 2) g * 2 / 512 =
-                ap (λ (x : ℕ). x / 512) (times-step n g) ∙ xor-shr (times (n / 2) g * 2) (n % 2 * g) 9
-                ∙ ap (bitXor (times (n / 2) g * 2 / 512)) (small (n % 2) (mod2 n)) ∙ xor-zero-r (times (n / 2) g * 2 / 512) in
-          let z : n / 2 ≡ 0 = ih (omega arith) in
-          let t : n < 2 = omega arith in
-          one-low n t (rw (times-bit g n t) at h))
+      (λ n ih h.
+      let e : times n g / 512 ≡ times (n / 2) g * 2 / 512 =
+      ap (λ (x : ℕ). x / 512) (times-step n g) ∙ xor-shr (times (n / 2) g * 2) (n % 2 * g) 9
+      ∙ ap (bitXor (times (n / 2) g * 2 / 512)) (small (n % 2) (mod2 n)) ∙ xor-zero-r (times (n / 2) g * 2 / 512) in
+      let z : n / 2 ≡ 0 = ih (omega arith) in
+      let t : n < 2 = omega arith in
+      one-low n t (rw (times-bit g n t) at h))
 
   -- uniqueness
   pub one-remainder : {m r r′ : ℕ} → Remainder g m r → Remainder g m r′ → r ≡ r′
@@ -73,7 +74,7 @@ module _ {g : ℕ} (d : Degree8 g) where
       let p : ℕ = times (a .quotient) g in
       let q : ℕ = times (b .quotient) g in
       let e : times (bitXor (a .quotient) (b .quotient)) g ≡ bitXor r r′ =
-            times-sum g (a .quotient) (b .quotient)
-            ∙ xor-zero (bitXor p q) (bitXor r r′) (xor-swap p q r r′ ∙ ap₂ bitXor (sym (a .sum)) (sym (b .sum)) ∙ xor-self m) in
+      times-sum g (a .quotient) (b .quotient)
+      ∙ xor-zero (bitXor p q) (bitXor r r′) (xor-swap p q r r′ ∙ ap₂ bitXor (sym (a .sum)) (sym (b .sum)) ∙ xor-self m) in
       let z : bitXor (a .quotient) (b .quotient) ≡ 0 = high _ (rw e (xor-lt 8 r r′ (a .low) (b .low))) in
       xor-zero r r′ (sym e ∙ ap (λ (x : ℕ). times x g) z)

@@ -28,10 +28,10 @@ brought-in : (s b m n : ℕ)
     → bitXor (s * 2 ^ (8 * suc n)) (bitXor (b * 2 ^ (8 * n)) m * 2 ^ 8) ≡ bitXor (bitXor s b * 2 ^ 8 * 2 ^ (8 * n)) (m * 2 ^ 8)
 brought-in s b m n =
     ap₂ bitXor (up s n)
-      (xor-times 8 (b * 2 ^ (8 * n)) m ∙ ap (λ (y : ℕ). bitXor y (m * 2 ^ 8)) (mul-right-comm b (2 ^ (8 * n)) (2 ^ 8)))
+    (xor-times 8 (b * 2 ^ (8 * n)) m ∙ ap (λ (y : ℕ). bitXor y (m * 2 ^ 8)) (mul-right-comm b (2 ^ (8 * n)) (2 ^ 8)))
     ∙ sym (xor-assoc (s * 2 ^ 8 * 2 ^ (8 * n)) (b * 2 ^ 8 * 2 ^ (8 * n)) (m * 2 ^ 8))
     ∙ ap (λ (y : ℕ). bitXor y (m * 2 ^ 8))
-        (sym (ap (λ (y : ℕ). y * 2 ^ (8 * n)) (xor-times 8 s b) ∙ xor-times (8 * n) (s * 2 ^ 8) (b * 2 ^ 8)))
+    (sym (ap (λ (y : ℕ). y * 2 ^ (8 * n)) (xor-times 8 s b) ∙ xor-times (8 * n) (s * 2 ^ 8) (b * 2 ^ 8)))
 
 module _ {g : ℕ} (d : Degree8 g) where
   step-is : (r : ℕ) → r < 256 → Remainder g (r * 2) (step g r)
@@ -62,12 +62,12 @@ module _ {g : ℕ} (d : Degree8 g) where
   alike-worked s (b ∷ bs) hs (hb, hbs) =
       let h : bitXor s b < 256 = xor-lt 8 s b hs hb in
       rw (brought-in s b (message bs) (length bs))
-        (alike-trans (alike-plus (message bs * 2 ^ 8) (alike-shift (8 * length bs) (alike-steps 8 (bitXor s b) h)))
-          (alike-worked (steps g 8 (bitXor s b)) bs (steps-low 8 (bitXor s b) h) hbs))
+      (alike-trans (alike-plus (message bs * 2 ^ 8) (alike-shift (8 * length bs) (alike-steps 8 (bitXor s b) h)))
+      (alike-worked (steps g 8 (bitXor s b)) bs (steps-low 8 (bitXor s b) h) hbs))
 
   pub worked-is-check : (s : ℕ) (bs : List ℕ) → s < 256 → Bytes bs → worked g s bs ≡ checkFrom g s bs
   unfolding checkFrom
   worked-is-check s bs hs hb =
       let a : Alike g (bitXor (s * 2 ^ (8 * length bs)) (message bs * 2 ^ 8)) (worked g s bs) = alike-worked s bs hs hb in
       one-remainder d (record { quotient = a .by; sum = a .is; low = worked-low s bs hs hb })
-        (remainder-is d (bitXor (s * 2 ^ (8 * length bs)) (message bs * 2 ^ 8)))
+      (remainder-is d (bitXor (s * 2 ^ (8 * length bs)) (message bs * 2 ^ 8)))

@@ -31,8 +31,8 @@ xor-bit = bits2 (λ (x y : ℕ). differ x y ≡ bitXor x y) refl refl refl refl
 bit-assoc : (x y z : ℕ) → x < 2 → y < 2 → z < 2 → bitXor (bitXor x y) z ≡ bitXor x (bitXor y z)
 bit-assoc x y z hx hy hz =
     bit (λ (z : ℕ). bitXor (bitXor x y) z ≡ bitXor x (bitXor y z))
-      (bits2 (λ (x y : ℕ). bitXor (bitXor x y) 0 ≡ bitXor x (bitXor y 0)) refl refl refl refl x y hx hy)
-      (bits2 (λ (x y : ℕ). bitXor (bitXor x y) 1 ≡ bitXor x (bitXor y 1)) refl refl refl refl x y hx hy) z hz
+    (bits2 (λ (x y : ℕ). bitXor (bitXor x y) 0 ≡ bitXor x (bitXor y 0)) refl refl refl refl x y hx hy)
+    (bits2 (λ (x y : ℕ). bitXor (bitXor x y) 1 ≡ bitXor x (bitXor y 1)) refl refl refl refl x y hx hy) z hz
 
 xor-digits : (a b : ℕ) → bitXor a b ≡ bitXor (a / 2) (b / 2) * 2 + bitXor (a % 2) (b % 2)
 xor-digits a b = xor-step a b ∙ ap (λ (x : ℕ). bitXor (a / 2) (b / 2) * 2 + x) (xor-bit (a % 2) (b % 2) (mod2 a) (mod2 b))
@@ -40,13 +40,13 @@ xor-digits a b = xor-step a b ∙ ap (λ (x : ℕ). bitXor (a / 2) (b / 2) * 2 +
 pub xor-assoc : (a b c : ℕ) → bitXor (bitXor a b) c ≡ bitXor a (bitXor b c)
 xor-assoc =
     bin-ind (λ (n : ℕ). (b c : ℕ) → bitXor (bitXor n b) c ≡ bitXor n (bitXor b c)) (λ b c. refl)
-      (λ n ih b c. xor-digits (bitXor n b) c
-        ∙ ap₂ (λ (x y : ℕ). x * 2 + y)
-            (ap (λ (x : ℕ). bitXor x (c / 2)) (xor-half n b) ∙ ih (b / 2) (c / 2) ∙ ap (bitXor (n / 2)) (sym (xor-half b c)))
-            (ap (λ (x : ℕ). bitXor x (c % 2)) (xor-odd n b)
-              ∙ bit-assoc (n % 2) (b % 2) (c % 2) (mod2 n) (mod2 b) (mod2 c)
-              ∙ ap (bitXor (n % 2)) (sym (xor-odd b c)))
-        ∙ sym (xor-digits n (bitXor b c)))
+    (λ n ih b c. xor-digits (bitXor n b) c
+    ∙ ap₂ (λ (x y : ℕ). x * 2 + y)
+    (ap (λ (x : ℕ). bitXor x (c / 2)) (xor-half n b) ∙ ih (b / 2) (c / 2) ∙ ap (bitXor (n / 2)) (sym (xor-half b c)))
+    (ap (λ (x : ℕ). bitXor x (c % 2)) (xor-odd n b)
+    ∙ bit-assoc (n % 2) (b % 2) (c % 2) (mod2 n) (mod2 b) (mod2 c)
+    ∙ ap (bitXor (n % 2)) (sym (xor-odd b c)))
+    ∙ sym (xor-digits n (bitXor b c)))
 
 -- (a + b) + (c + d) = (a + c) + (b + d)
 pub xor-swap : (a b c d : ℕ) → bitXor (bitXor a b) (bitXor c d) ≡ bitXor (bitXor a c) (bitXor b d)
@@ -80,4 +80,4 @@ xor-times (suc k) a b = simp (pow-suc, ← mul-assoc) (ap (λ (x : ℕ). x * 2) 
 pub bit-times : (g x y : ℕ) → x < 2 → y < 2 → bitXor x y * g ≡ bitXor (x * g) (y * g)
 bit-times g =
     bits2 (λ (x y : ℕ). bitXor x y * g ≡ bitXor (x * g) (y * g))
-      (simp zero-mul) (simp zero-mul) (simp (zero-mul, xor-zero-r)) (simp (zero-mul, one-mul, xor-self))
+    (simp zero-mul) (simp zero-mul) (simp (zero-mul, xor-zero-r)) (simp (zero-mul, one-mul, xor-self))

@@ -14,11 +14,7 @@ const COMMAND_TYPE: u8 = 0x32;
 fn shift(p: u8, r: u8) -> u8
     ensures { λ s. ⌜ s ≡ step (256 + p) r ⌝ }
 {
-    if r < 128 {
-        r * 2
-    } else {
-        (r - 128) * 2 ^ p
-    }
+    if r < 128 { r * 2 } else { (r - 128) * 2 ^ p }
 }
 
 // The eight steps of one byte. The polynomial is a constant of this loop, which is how the compiler comes to make a table of it.
@@ -50,11 +46,7 @@ pub fn check(bytes: &[u8], start: u8) -> u8
 fn but_last(len: usize) -> usize
     ensures { λ n. ⌜ n ≡ len - 1 ⌝ }
 {
-    if 0 < len {
-        len - 1
-    } else {
-        0
-    }
+    if 0 < len { len - 1 } else { 0 }
 }
 
 // The check that belongs into the last byte of `payload`, whatever stands there.

@@ -1,24 +1,18 @@
-use native.Mathlib.Omega.{arith}
+-- One step, below degree 8 and at it. Assumes nothing.
 use Rattle.crc.proofs.Loops.{step-small, step-large}
 use borrow.Author.Needs.{needs}
 use Rattle.crc.proofs.shift.Statement.{statement}
 use Rattle.crc.proofs.shift.Tie as tie
-use Rattle.crc.proofs.shift.Reads as reads
-use Rattle.crc.proofs.shift.Lts as lts
 
--- src/lib.rt:18:9
 mul-result : tie.Need-mul-result
 mul-result c = search needs
 
--- src/lib.rt:20:9
 mul-result-2 : tie.Need-mul-result-2
 mul-result-2 c = search needs
 
--- src/lib.rt:14:1
 returns : tie.Need-returns
 returns c = step-small _ _ (search needs)
 
--- src/lib.rt:14:1
 returns-2 : tie.Need-returns-2
 returns-2 c = step-large _ _ (search needs) (search needs) (search needs)
 

@@ -1,0 +1,166 @@
+// Replays the stored answers of the Rust from standard input. README.md in this crate's folder says what a record is.
+ghost use Prim.Native.Nat.{_<_};
+
+enum Part {
+    Bytes(usize),
+    Cut,
+}
+
+enum Record {
+    Agrees(u8),
+    Differs,
+    Cut,
+    End,
+}
+
+struct Tally {
+    check: u64,
+    payload_check: u64,
+    differ: u64,
+    cut: u64,
+}
+
+const CHECK: u8 = 1;
+
+const PAYLOAD_CHECK: u8 = 2;
+
+fn wide(x: u8) -> usize
+    ensures { λ r. ⌜ r < 256 ⌝ }
+{
+    x as usize
+}
+
+// A length of two bytes, then that many bytes, which go to the start of `space`.
+fn read_part(space: &mut [u8]) -> Part {
+    let mut head = [0u8; 2];
+    let got = io::read_full(0, &mut head);
+    if got < 2 {
+        return Part::Cut;
+    }
+    let len = wide(head[0]) * 256 + wide(head[1]);
+    if space.len() < len {
+        return Part::Cut;
+    }
+    let read = io::read_full(0, &mut space[..len]);
+    if read < len {
+        return Part::Cut;
+    }
+    Part::Bytes(len)
+}
+
+fn is_byte(stored: &[u8], answer: u8) -> bool {
+    stored.len() == 1 && stored[0] == answer
+}
+
+// Whether we answer `input` as the Rust did. A kind that we do not know agrees with nothing.
+fn agrees(kind: u8, input: &[u8], stored: &[u8]) -> bool {
+    match kind {
+        CHECK => is_byte(stored, crc::check(input, 0)),
+        PAYLOAD_CHECK => is_byte(stored, crc::payload_check(input)),
+        _ => false,
+    }
+}
+
+// The record is the first n bytes of `input` and the first m of `stored`.
+fn judged(kind: u8, input: &[u8], n: usize, stored: &[u8], m: usize) -> Record {
+    if input.len() < n || stored.len() < m {
+        return Record::Cut;
+    }
+    if agrees(kind, &input[..n], &stored[..m]) {
+        Record::Agrees(kind)
+    } else {
+        Record::Differs
+    }
+}
+
+// Both parts of a record, after its kind.
+fn read_both(kind: u8, input: &mut [u8], stored: &mut [u8]) -> Record {
+    let first = read_part(input);
+    let Part::Bytes(n) = first else {
+        return Record::Cut;
+    };
+    let second = read_part(stored);
+    let Part::Bytes(m) = second else {
+        return Record::Cut;
+    };
+    judged(kind, input, n, stored, m)
+}
+
+fn read_record() -> Record {
+    let mut kind = [0u8; 1];
+    let got = io::read_full(0, &mut kind);
+    if got == 0 {
+        return Record::End;
+    }
+    let mut input = [0u8; 512];
+    let mut stored = [0u8; 512];
+    read_both(kind[0], &mut input, &mut stored)
+}
+
+fn one_more(n: u64) -> u64 {
+    std::num::wrapping_add_u64(n, 1)
+}
+
+fn counted(t: Tally, r: Record) -> Tally {
+    let mut out = t;
+    match r {
+        Record::Agrees(kind) => {
+            if kind == CHECK {
+                out.check = one_more(t.check);
+            } else {
+                out.payload_check = one_more(t.payload_check);
+            }
+        }
+        Record::Differs => {
+            out.differ = one_more(t.differ);
+        }
+        Record::Cut => {
+            out.cut = one_more(t.cut);
+        }
+        Record::End => {}
+    }
+    out
+}
+
+fn is_whole(r: Record) -> bool {
+    match r {
+        Record::Agrees(_) => true,
+        Record::Differs => true,
+        Record::Cut => false,
+        Record::End => false,
+    }
+}
+
+// A proved loop has to end, and nothing says that the input does: the turns count down from a number that no list reaches.
+fn replay() -> Tally {
+    let mut tally = Tally {
+        check: 0,
+        payload_check: 0,
+        differ: 0,
+        cut: 0,
+    };
+    let mut turns = u64::MAX;
+    while turns > 0 {
+        let r = read_record();
+        tally = counted(tally, r);
+        if !is_whole(r) {
+            return tally;
+        }
+        turns -= 1;
+    }
+    tally
+}
+
+fn print_line(name: &[u8], n: u64) {
+    io::write_all(1, name);
+    io::print_decimal(1, n);
+    io::write_all(1, b"\n");
+}
+
+fn main() {
+    let tally = replay();
+    print_line(b"check ", tally.check);
+    print_line(b"payload check ", tally.payload_check);
+    print_line(b"differ ", tally.differ);
+    print_line(b"cut ", tally.cut);
+}
