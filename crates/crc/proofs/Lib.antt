@@ -6,3 +6,4 @@ pub mod Loops
 pub mod Laws
 pub mod Examples
 pub mod OneAnswer
+pub mod Promised

@@ -1,0 +1,2 @@
+#![no_std]
+include!(concat!(env!("OUT_DIR"), "/root.rs"));
