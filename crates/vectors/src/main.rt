@@ -131,7 +131,25 @@ fn is_whole(r: Record) -> bool {
     }
 }
 
-// A proved loop has to end, and nothing says that the input does: the turns count down from a number that no list reaches.
+fn print_line(name: &[u8], n: u64) {
+    io::write_all(1, name);
+    io::print_decimal(1, n);
+    io::write_all(1, b"\n");
+}
+
+// Names the n-th record, counted from 0, where it differs.
+fn name_differing(r: Record, n: u64) {
+    match r {
+        Record::Agrees(_) => {}
+        Record::Differs => {
+            print_line(b"differs: record ", n);
+        }
+        Record::Cut => {}
+        Record::End => {}
+    }
+}
+
+// A proved loop has to end, and nothing says that the input does: no list has as many records as this loop has turns.
 fn replay() -> Tally {
     let mut tally = Tally {
         check: 0,
@@ -139,22 +157,15 @@ fn replay() -> Tally {
         differ: 0,
         cut: 0,
     };
-    let mut turns = u64::MAX;
-    while turns > 0 {
+    for n in 0..u64::MAX {
         let r = read_record();
         tally = counted(tally, r);
+        name_differing(r, n);
         if !is_whole(r) {
             return tally;
         }
-        turns -= 1;
     }
     tally
-}
-
-fn print_line(name: &[u8], n: u64) {
-    io::write_all(1, name);
-    io::print_decimal(1, n);
-    io::write_all(1, b"\n");
 }
 
 fn main() {
