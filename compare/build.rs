@@ -6,11 +6,16 @@ fn main() {
     println!("cargo:rerun-if-env-changed=CRSF_ARCHIVE");
     let folder = match env::var_os("CRSF_ARCHIVE") {
         Some(folder) => PathBuf::from(folder),
-        None => PathBuf::from(env::var_os("CARGO_MANIFEST_DIR").unwrap()).join("../target/staticlib"),
+        None => {
+            PathBuf::from(env::var_os("CARGO_MANIFEST_DIR").unwrap()).join("../target/staticlib")
+        }
     };
     let archive = folder.join("libcrsf.a");
     if !archive.is_file() {
-        panic!("{} is missing: run `rt staticlib crsf` at the project's root.", archive.display());
+        panic!(
+            "{} is missing: run `rt staticlib crsf` at the project's root.",
+            archive.display()
+        );
     }
     println!("cargo:rerun-if-changed={}", archive.display());
     println!("cargo:rustc-link-search=native={}", folder.display());

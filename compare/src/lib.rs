@@ -16,12 +16,16 @@ pub mod ours {
 pub mod theirs {
     use uf_crsf::packets::COMMAND_CRC_ALGO;
 
-    /// The digest of the parts, one after the other.
-    pub fn check(parts: &[&[u8]]) -> u8 {
+    pub fn check(message: &[u8]) -> u8 {
         let mut digest = COMMAND_CRC_ALGO.digest();
-        for part in parts {
-            digest.update(part);
-        }
+        digest.update(message);
+        digest.finalize()
+    }
+
+    pub fn check_in_two(first: &[u8], second: &[u8]) -> u8 {
+        let mut digest = COMMAND_CRC_ALGO.digest();
+        digest.update(first);
+        digest.update(second);
         digest.finalize()
     }
 }
@@ -56,11 +60,18 @@ pub struct Outcome {
 }
 
 impl Outcome {
-    pub fn note<T: PartialEq + std::fmt::Debug>(&mut self, ours: T, theirs: T, case: impl FnOnce() -> String) {
+    pub fn note<T: PartialEq + std::fmt::Debug>(
+        &mut self,
+        ours: T,
+        theirs: T,
+        case: impl FnOnce() -> String,
+    ) {
         self.cases += 1;
         if ours != theirs {
             self.differing += 1;
-            self.first.get_or_insert_with(|| format!("{}: ours {ours:02X?}, the Rust's {theirs:02X?}", case()));
+            self.first.get_or_insert_with(|| {
+                format!("{}: ours {ours:02X?}, the Rust's {theirs:02X?}", case())
+            });
         }
     }
 }
@@ -72,7 +83,9 @@ impl Outcome {
 pub fn compare_check(ours: impl Fn(&[u8], u8) -> u8, random: u64, seed: u64) -> Outcome {
     let mut outcome = Outcome::default();
     let mut from_zero = |message: &[u8]| {
-        outcome.note(ours(message, 0), theirs::check(&[message]), || format!("{message:02X?} from 0"));
+        outcome.note(ours(message, 0), theirs::check(message), || {
+            format!("{message:02X?} from 0")
+        });
     };
     from_zero(&[]);
     for a in 0..=255 {
@@ -83,16 +96,24 @@ pub fn compare_check(ours: impl Fn(&[u8], u8) -> u8, random: u64, seed: u64) -> 
     }
     for start in 0..=255 {
         for a in 0..=255 {
-            outcome.note(ours(&[a], start), theirs::check(&[&[a ^ start]]), || format!("{a:02X} from {start:02X}"));
+            outcome.note(ours(&[a], start), theirs::check(&[a ^ start]), || {
+                format!("{a:02X} from {start:02X}")
+            });
         }
     }
     let mut source = Random(seed);
     for _ in 0..random {
         let len = source.below(65);
         let message = source.bytes(len);
-        outcome.note(ours(&message, 0), theirs::check(&[&message]), || format!("{message:02X?} from 0"));
+        outcome.note(ours(&message, 0), theirs::check(&message), || {
+            format!("{message:02X?} from 0")
+        });
         let (first, second) = message.split_at(source.below(len + 1));
-        outcome.note(ours(second, ours(first, 0)), theirs::check(&[first, second]), || format!("{first:02X?}, then {second:02X?}"));
+        outcome.note(
+            ours(second, ours(first, 0)),
+            theirs::check_in_two(first, second),
+            || format!("{first:02X?}, then {second:02X?}"),
+        );
     }
     outcome
 }

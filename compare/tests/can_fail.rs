@@ -1,9 +1,15 @@
 //! The comparison tells a wrong check from a right one: each of these is wrong in one place only.
-use compare::{compare_check, ours, Outcome};
+use compare::{compare_check, Outcome};
 
 fn by_bit(poly: u8, start: u8, bytes: &[u8]) -> u8 {
     bytes.iter().fold(start, |value, byte| {
-        (0..8).fold(value ^ byte, |value, _| if value < 128 { value << 1 } else { value << 1 ^ poly })
+        (0..8).fold(value ^ byte, |value, _| {
+            if value < 128 {
+                value << 1
+            } else {
+                value << 1 ^ poly
+            }
+        })
     })
 }
 
@@ -26,29 +32,33 @@ fn another_polynomial_is_seen() {
 
 #[test]
 fn another_start_is_seen() {
-    assert_ne!(run(|bytes, start| by_bit(0xBA, start ^ 1, bytes)).differing, 0);
+    assert_ne!(
+        run(|bytes, start| by_bit(0xBA, start ^ 1, bytes)).differing,
+        0
+    );
     assert_ne!(run(|bytes, _| by_bit(0xBA, 0, bytes)).differing, 0);
 }
 
 #[test]
 fn a_message_cut_short_is_seen() {
-    assert_ne!(run(|bytes, start| by_bit(0xBA, start, &bytes[..bytes.len().min(63)])).differing, 0);
-    assert_ne!(run(|bytes, start| by_bit(0xBA, start, bytes.get(1..).unwrap_or(&[]))).differing, 0);
+    assert_ne!(
+        run(|bytes, start| by_bit(0xBA, start, &bytes[..bytes.len().min(63)])).differing,
+        0
+    );
+    assert_ne!(
+        run(|bytes, start| by_bit(0xBA, start, bytes.get(1..).unwrap_or(&[]))).differing,
+        0
+    );
 }
 
 #[test]
 fn one_wrong_entry_of_256_is_seen() {
-    let outcome = run(|bytes, start| bytes.iter().fold(start, |value, byte| {
-        let value = value ^ byte;
-        by_bit(0xBA, value, &[0]) ^ u8::from(value == 0xC3)
-    }));
+    let outcome = run(|bytes, start| {
+        bytes.iter().fold(start, |value, byte| {
+            let value = value ^ byte;
+            by_bit(0xBA, value, &[0]) ^ u8::from(value == 0xC3)
+        })
+    });
     assert_ne!(outcome.differing, 0);
     assert!(outcome.first.is_some());
-}
-
-#[test]
-fn bad_input_has_an_answer() {
-    assert_eq!(ours::check(&[], 0), 0);
-    assert_eq!(ours::check(&[], 0xFF), 0xFF);
-    assert_eq!(ours::check(&vec![0xFF; 100_000], 0xFF), by_bit(0xBA, 0xFF, &vec![0xFF; 100_000]));
 }

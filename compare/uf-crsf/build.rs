@@ -15,12 +15,18 @@ const FILES: [&str; 9] = [
     "packets/commands/screen.rs",
 ];
 
-const STAND_INS: [(&str, &str); 2] = [("stand-ins/root.rs", "root.rs"), ("stand-ins/packets.rs", "packets/mod.rs")];
+const STAND_INS: [(&str, &str); 2] = [
+    ("stand-ins/root.rs", "root.rs"),
+    ("stand-ins/packets.rs", "packets/mod.rs"),
+];
 
 fn copy(from: &Path, to: &Path) {
     println!("cargo:rerun-if-changed={}", from.display());
     if let Err(error) = fs::copy(from, to) {
-        panic!("{}: {error}. UF_CRSF_SRC names the folder that holds uf-crsf's src/.", from.display());
+        panic!(
+            "{}: {error}. UF_CRSF_SRC names the folder that holds uf-crsf's src/.",
+            from.display()
+        );
     }
 }
 

@@ -19,7 +19,7 @@ fn check(side: &str, count: u64) {
             black_box(ours::check(black_box(&message), 0));
         }),
         "rust" => repeated(count, || {
-            black_box(theirs::check(&[black_box(&message)]));
+            black_box(theirs::check(black_box(&message)));
         }),
         _ => panic!("ours or rust"),
     }

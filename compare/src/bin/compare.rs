@@ -7,7 +7,10 @@ const RANDOM: u64 = 1_000_000;
 const SEED: u64 = 0xB510_548D;
 
 fn report(name: &str, outcome: &Outcome) -> bool {
-    println!("{name}: {} cases, {} differ", outcome.cases, outcome.differing);
+    println!(
+        "{name}: {} cases, {} differ",
+        outcome.cases, outcome.differing
+    );
     if let Some(first) = &outcome.first {
         println!("  first: {first}");
     }
@@ -15,7 +18,9 @@ fn report(name: &str, outcome: &Outcome) -> bool {
 }
 
 fn main() -> ExitCode {
-    let mut words = std::env::args().skip(1).map(|word| word.parse().expect("a number"));
+    let mut words = std::env::args()
+        .skip(1)
+        .map(|word| word.parse().expect("a number"));
     let random = words.next().unwrap_or(RANDOM);
     let seed = words.next().unwrap_or(SEED);
     println!("against uf-crsf, {random} random inputs a kind, seed {seed}");

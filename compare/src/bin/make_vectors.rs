@@ -7,8 +7,9 @@ use std::{env, fs};
 
 use compare::{theirs, Random};
 use uf_crsf::packets::{
-    CommandAck, CommandPayload, CommandString, CrossfireCommand, CrsfPacket, DirectCommands, FcCommand, FlowControlCommand,
-    GeneralCommand, LedColor, LedCommand, OsdCommand, ScreenCommand, ScreenPopup, ScreenPopupFields, VtxCommand,
+    CommandAck, CommandPayload, CommandString, CrossfireCommand, CrsfPacket, DirectCommands,
+    FcCommand, FlowControlCommand, GeneralCommand, LedColor, LedCommand, OsdCommand, ScreenCommand,
+    ScreenPopup, ScreenPopupFields, VtxCommand,
 };
 
 const CHECK: u8 = 1;
@@ -23,7 +24,8 @@ struct List {
 
 impl List {
     fn part(&mut self, part: &[u8]) {
-        self.bytes.extend(u16::try_from(part.len()).unwrap().to_be_bytes());
+        self.bytes
+            .extend(u16::try_from(part.len()).unwrap().to_be_bytes());
         self.bytes.extend(part);
     }
 
@@ -42,10 +44,15 @@ fn checks(list: &mut List, random: &mut Random) {
         if let Some(last) = last_one.last_mut() {
             *last = 1;
         }
-        let mut messages = vec![vec![0; len], vec![0xFF; len], (0..len as u8).collect(), last_one];
+        let mut messages = vec![
+            vec![0; len],
+            vec![0xFF; len],
+            (0..len as u8).collect(),
+            last_one,
+        ];
         messages.extend((0..4).map(|_| random.bytes(len)));
         for message in messages {
-            list.record(CHECK, &message, &[theirs::check(&[&message])]);
+            list.record(CHECK, &message, &[theirs::check(&message)]);
         }
     }
 }
@@ -55,7 +62,8 @@ fn payload_checks(list: &mut List, random: &mut Random) {
     for len in 1..=60 {
         for _ in 0..2 {
             let payload = random.bytes(len);
-            let check = theirs::check(&[&[DirectCommands::PACKET_TYPE as u8], &payload[..len - 1]]);
+            let check =
+                theirs::check_in_two(&[DirectCommands::PACKET_TYPE as u8], &payload[..len - 1]);
             list.record(PAYLOAD_CHECK, &payload, &[check]);
         }
     }
@@ -63,7 +71,11 @@ fn payload_checks(list: &mut List, random: &mut Random) {
 
 /// A command of each family, as the Rust writes it: its last byte is the check.
 fn written(list: &mut List) {
-    let color = LedColor { hue: 359, saturation: 100, value: 100 };
+    let color = LedColor {
+        hue: 359,
+        saturation: 100,
+        value: 100,
+    };
     let text = |bytes: &[u8]| CommandString::new(bytes).unwrap();
     let popup = ScreenPopup::new(&ScreenPopupFields {
         header: text(b"Bridge 12"),
@@ -79,15 +91,27 @@ fn written(list: &mut List) {
         CommandPayload::Osd(OsdCommand::SendButtons(0x81)),
         CommandPayload::Vtx(VtxCommand::SetFrequency(5800)),
         CommandPayload::Led(LedCommand::OverrideColor(color)),
-        CommandPayload::General(GeneralCommand::SpeedProposal { port_id: 1, proposed_baudrate: 400_000 }),
+        CommandPayload::General(GeneralCommand::SpeedProposal {
+            port_id: 1,
+            proposed_baudrate: 400_000,
+        }),
         CommandPayload::Crossfire(CrossfireCommand::ModelSelection(7)),
-        CommandPayload::FlowControl(FlowControlCommand::Subscribe { frame_type: 0x14, max_interval_time: 500 }),
+        CommandPayload::FlowControl(FlowControlCommand::Subscribe {
+            frame_type: 0x14,
+            max_interval_time: 500,
+        }),
         CommandPayload::Screen(ScreenCommand::PopupMessageStart(popup)),
         CommandPayload::Ack(CommandAck::new(0x08, 0x02, 1, &[b'o'; 52]).unwrap()),
     ];
     for payload in payloads {
         let mut buffer = [0; 60];
-        let len = DirectCommands { dst_addr: 0xC8, src_addr: 0xEA, payload }.to_bytes(&mut buffer).unwrap();
+        let len = DirectCommands {
+            dst_addr: 0xC8,
+            src_addr: 0xEA,
+            payload,
+        }
+        .to_bytes(&mut buffer)
+        .unwrap();
         list.record(PAYLOAD_CHECK, &buffer[..len], &buffer[len - 1..len]);
     }
 }

@@ -22,7 +22,7 @@ message (b ∷ bs) = plus (b * x ^ (8 * length bs)) (message bs)
 unfoldable pub checkOf : ℕ → List ℕ → ℕ
 checkOf g bs = remainder g (message bs * x ^ 8)
 
--- From a start value s: s is added to the first byte of the message. Nothing follows an empty message, so its check is s.
+-- The same from a start s, which is added to the first byte of the message. Of an empty message it is s.
 unfoldable pub checkFrom : ℕ → ℕ → List ℕ → ℕ
 checkFrom g s bs = remainder g (plus (s * x ^ (8 * length bs)) (message bs * x ^ 8))
 

@@ -44,7 +44,10 @@ impl Crc<u8> {
     }
 
     pub const fn digest(&self) -> Digest<'_, u8> {
-        Digest { crc: self, value: 0 }
+        Digest {
+            crc: self,
+            value: 0,
+        }
     }
 }
 

@@ -28,7 +28,10 @@ fn remainder(message: &[u8]) -> u8 {
     for byte in message.iter().chain(&[0]) {
         bits.extend((0..8).rev().map(|k| byte >> k & 1 == 1));
     }
-    let divisor: Vec<bool> = (0..9).rev().map(|k| (0x100 | u16::from(POLY)) >> k & 1 == 1).collect();
+    let divisor: Vec<bool> = (0..9)
+        .rev()
+        .map(|k| (0x100 | u16::from(POLY)) >> k & 1 == 1)
+        .collect();
     for top in 0..bits.len() - 8 {
         if bits[top] {
             for (k, coefficient) in divisor.iter().enumerate() {
@@ -36,7 +39,9 @@ fn remainder(message: &[u8]) -> u8 {
             }
         }
     }
-    bits[bits.len() - 8..].iter().fold(0, |value, &bit| value * 2 + u8::from(bit))
+    bits[bits.len() - 8..]
+        .iter()
+        .fold(0, |value, &bit| value * 2 + u8::from(bit))
 }
 
 #[test]
@@ -69,11 +74,17 @@ fn every_message_of_up_to_two_bytes_is_divided() {
 
 #[test]
 fn longer_messages_are_divided_in_whatever_parts_they_come() {
-    let message: Vec<u8> = (0..64u32).map(|i| (i * i * 37 + i * 11 + 5) as u8).collect();
+    let message: Vec<u8> = (0..64u32)
+        .map(|i| (i * i * 37 + i * 11 + 5) as u8)
+        .collect();
     for len in 0..=message.len() {
         for cut in 0..=len {
             let (first, second) = message[..len].split_at(cut);
-            assert_eq!(digest(&[first, second]), remainder(&message[..len]), "{len} bytes cut at {cut}");
+            assert_eq!(
+                digest(&[first, second]),
+                remainder(&message[..len]),
+                "{len} bytes cut at {cut}"
+            );
         }
     }
 }

@@ -12,22 +12,21 @@ pub struct Vec<T, const N: usize> {
 
 impl<T: Copy + Default, const N: usize> Vec<T, N> {
     pub fn new() -> Self {
-        Self { items: [T::default(); N], len: 0 }
+        Self {
+            items: [T::default(); N],
+            len: 0,
+        }
     }
 
     /// All or nothing: where `other` does not fit, nothing is appended.
-    #[allow(clippy::result_unit_err)]
     pub fn extend_from_slice(&mut self, other: &[T]) -> Result<(), ()> {
         let end = self.len + other.len();
-        self.items.get_mut(self.len..end).ok_or(())?.copy_from_slice(other);
+        self.items
+            .get_mut(self.len..end)
+            .ok_or(())?
+            .copy_from_slice(other);
         self.len = end;
         Ok(())
-    }
-}
-
-impl<T: Copy + Default, const N: usize> Default for Vec<T, N> {
-    fn default() -> Self {
-        Self::new()
     }
 }
 
