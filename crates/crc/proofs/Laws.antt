@@ -1,6 +1,6 @@
 -- What other crates cite of the check.
 -- Assumes nothing.
-use mathlib.Core.Path.{_≡_, refl, sym, ap, _∙_}
+use mathlib.Core.Path.{_≡_, sym, ap, _∙_}
 use mathlib.Core.List.{List, [], _∷_, _++_}
 use Prim.Native.Nat.{ℕ, zero, suc, _*_, _-_, _<_, _^_}
 use native.Mathlib.Nat.{zero-mul}
@@ -9,17 +9,17 @@ use lib.Dec.{lit<, lit≤}
 use lib.ListN.{getD, length, take}
 use mir.Val.{Fits}
 use mir.Syntax.{w8}
-use Rattle.crc.specs.Polynomial.{Degree8, Remainder, plus}
-use Rattle.crc.specs.Check.{commandPolynomial, Bytes, message, checkOf, checkFrom, allButLast, payloadCheck}
+use Rattle.crc.specs.Polynomial.{x, plus, Degree8, Remainder}
+use Rattle.crc.specs.Check.{commandPolynomial, Bytes, message, startedMessage, checkOf, checkFrom, allButLast, payloadCheck}
 use Rattle.crc.specs.Steps.{steps, worked}
 use Rattle.crc.proofs.Remainders.{remainder-is}
-use Rattle.crc.proofs.Worked.{steps-low, worked-low, worked-is-check}
+use Rattle.crc.proofs.Worked.{steps-low, worked-is-check}
 
 -- ---- bytes
 -- a slice's elements, each known to fit, are bytes
-pub bytes-of : (xs : List ℕ) → ((i : ℕ) → Fits w8 (getD xs i 0)) → Bytes xs
+pub bytes-of : (bs : List ℕ) → ((i : ℕ) → Fits w8 (getD bs i 0)) → Bytes bs
 bytes-of [] h = tt
-bytes-of (x ∷ xs) h = (h 0 .fits, bytes-of xs (λ i. h (suc i)))
+bytes-of (b ∷ bs) h = (h 0 .fits, bytes-of bs (λ i. h (suc i)))
 
 pub bytes-take : (n : ℕ) (bs : List ℕ) → Bytes bs → Bytes (take n bs)
 bytes-take zero bs h = tt
@@ -36,13 +36,13 @@ unfolding checkFrom checkOf
 from-zero g bs = simp zero-mul
 
 module _ {g : ℕ} (d : Degree8 g) where
-  pub check-is-remainder : (bs : List ℕ) → Remainder g (message bs * 2 ^ 8) (checkOf g bs)
+  pub check-is-remainder : (bs : List ℕ) → Remainder g (message bs * x ^ 8) (checkOf g bs)
   unfolding checkOf
-  check-is-remainder bs = remainder-is d (message bs * 2 ^ 8)
+  check-is-remainder bs = remainder-is d (message bs * x ^ 8)
 
-  pub from-is-remainder : (s : ℕ) (bs : List ℕ) → Remainder g (plus (s * 2 ^ (8 * length bs)) (message bs * 2 ^ 8)) (checkFrom g s bs)
+  pub from-is-remainder : (s : ℕ) (bs : List ℕ) → Remainder g (startedMessage s bs) (checkFrom g s bs)
   unfolding checkFrom
-  from-is-remainder s bs = remainder-is d (plus (s * 2 ^ (8 * length bs)) (message bs * 2 ^ 8))
+  from-is-remainder s bs = remainder-is d (startedMessage s bs)
 
   pub check-low : (s : ℕ) (bs : List ℕ) → checkFrom g s bs < 256
   check-low s bs = from-is-remainder s bs .low
@@ -70,7 +70,7 @@ abbrev pub command : Degree8 commandPolynomial
 command = record { least = lit≤ tt; most = lit< tt }
 
 -- "the remainder of the message, times x^8", the message being 0x32 and all payload bytes but the last
-pub payload-check-is-remainder : (p : List ℕ) → Remainder commandPolynomial (message (0x32 ∷ allButLast p) * 2 ^ 8) (payloadCheck p)
+pub payload-check-is-remainder : (p : List ℕ) → Remainder commandPolynomial (message (0x32 ∷ allButLast p) * x ^ 8) (payloadCheck p)
 unfolding payloadCheck
 payload-check-is-remainder p = check-is-remainder command (0x32 ∷ allButLast p)
 

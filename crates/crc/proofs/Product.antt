@@ -6,7 +6,7 @@ use native.Mathlib.Nat.{zero-mul, le-refl, not-suc-le-zero, mul-assoc, pow-suc, 
 use native.Mathlib.Decide.{le-ind}
 use lib.Arith.{bin-ind, half-le}
 use lib.Bits.{bitXor, xor-zero-r}
-use Rattle.crc.specs.Polynomial.{timesIn, times}
+use Rattle.crc.specs.Polynomial.{timesIn, times, Remainder}
 use Rattle.crc.proofs.Xor.{bit, xor-assoc, xor-swap, xor-twice, bit-times, xor-half, xor-odd, twice-half, twice-odd, mod2}
 
 more : (g n q : ℕ) → q ≤ n → timesIn (suc n) q g ≡ timesIn n q g
@@ -46,6 +46,12 @@ pub record Alike (g a b : ℕ) : Type 0 where
   pub is : a ≡ bitXor (times by g) b
 
 module _ {g : ℕ} where
+  pub alike-of : {m r : ℕ} → Remainder g m r → Alike g m r
+  alike-of h = record { by = h .quotient; is = h .sum }
+
+  pub remainder-of : {m r : ℕ} → Alike g m r → r < 256 → Remainder g m r
+  remainder-of h l = record { quotient = h .by; sum = h .is; low = l }
+
   pub alike-refl : (a : ℕ) → Alike g a a
   unfolding times
   alike-refl a = record { by = 0; is = refl }

@@ -1,15 +1,13 @@
 -- Whatever meets the contract of a public function is the remainder by the command's polynomial. `Post` is the contract as the check
 -- reads it from the source. Assumes nothing.
-use mathlib.Core.Path.{_≡_}
 use mathlib.Core.List.{_∷_}
 use Prim.Native.Nat.{_*_, _^_}
-use lib.ListN.{length}
 use contract.Lifetimes.{Lfts}
 use borrow.Fn.Kinds.{Dens, resT, endedOf}
 use denote.Triple.Clauses.{AtExit}
 use denote.Ref.{now}
-use Rattle.crc.specs.Polynomial.{x, plus, Remainder}
-use Rattle.crc.specs.Check.{commandPolynomial, message, allButLast}
+use Rattle.crc.specs.Polynomial.{x, Remainder}
+use Rattle.crc.specs.Check.{commandPolynomial, message, startedMessage, allButLast}
 use Rattle.crc.proofs.Laws.{command, from-is-remainder, payload-check-is-remainder}
 use Rattle.crc.proofs.check.Reads as check
 use Rattle.crc.proofs.check.Kinds as check-kinds
@@ -21,7 +19,7 @@ pub check-remainder : (κs : Lfts 1)
     (r : resT check-kinds.r κs .Denot)
     (s : AtExit (endedOf 1 check-kinds.ps check-kinds.r) κs)
     → check.Post κs a r s
-    → Remainder commandPolynomial (plus (a .1 .0 * x ^ (8 * length (now (a .0)))) (message (now (a .0)) * x ^ 8)) r
+    → Remainder commandPolynomial (startedMessage (a .1 .0) (now (a .0))) r
 check-remainder κs a r s p = rw p (from-is-remainder command (a .1 .0) (now (a .0)))
 
 pub payload-check-remainder : (κs : Lfts 1)

@@ -9,7 +9,7 @@ use lib.Bits.{bitXor, xor-zero-r, xor-self, xor-lt, xor-shr, xor-shifted}
 use lib.Dec.{lit<}
 use Rattle.crc.specs.Polynomial.{times, Degree8, Remainder, remainderIn, remainder}
 use Rattle.crc.proofs.Xor.{bit, xor-swap, xor-back, xor-zero, mod2}
-use Rattle.crc.proofs.Product.{times-step, times-sum, times-bit, Alike, alike-trans, alike-plus, alike-twice}
+use Rattle.crc.proofs.Product.{times-step, times-sum, times-bit, Alike, alike-of, remainder-of, alike-trans, alike-plus, alike-twice}
 
 below : (x : ℕ) → x / 256 ≡ 0 → x < 256
 below x e = omega arith
@@ -38,11 +38,10 @@ module _ {g : ℕ} (d : Degree8 g) where
       let a : Remainder g (suc m / 2) r = divided n (suc m / 2) (half-le h) in
       let l : r < 256 = a .low in
       let b : Remainder g (r * 2 + suc m % 2) (bitXor (r * 2 + suc m % 2) ((r * 2 + suc m % 2) / 256 * g)) = reduced (r * 2 + suc m % 2) (omega arith) in
-      let t : Alike g (suc m / 2 * 2) (r * 2) = alike-twice (record { by = a .quotient; is = a .sum }) in
+      let t : Alike g (suc m / 2 * 2) (r * 2) = alike-twice (alike-of a) in
       let e : bitXor (suc m / 2 * 2) (suc m % 2) ≡ suc m = xor-shifted (suc m / 2) 1 (suc m % 2) (mod2 (suc m)) ∙ omega arith in
       let k : Alike g (suc m) (r * 2 + suc m % 2) = rw e at (rw (xor-shifted r 1 (suc m % 2) (mod2 (suc m))) at (alike-plus (suc m % 2) t)) in
-      let z : Alike g (suc m) (bitXor (r * 2 + suc m % 2) ((r * 2 + suc m % 2) / 256 * g)) = alike-trans k (record { by = b .quotient; is = b .sum }) in
-      record { quotient = z .by; sum = z .is; low = b .low }
+      remainder-of (alike-trans k (alike-of b)) (b .low)
 
   -- existence, and the executable form
   pub remainder-is : (m : ℕ) → Remainder g m (remainder g m)

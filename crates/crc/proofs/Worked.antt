@@ -1,18 +1,18 @@
 -- The division worked bit after bit and byte after byte gives the remainder: of every message, from every start, for every
 -- polynomial of degree 8.
 -- Assumes nothing.
-use mathlib.Core.Path.{_≡_, refl, sym, ap, ap₂, _∙_}
+use mathlib.Core.Path.{_≡_, sym, ap, ap₂, _∙_}
 use mathlib.Core.List.{List, [], _∷_}
 use Prim.Native.Nat.{ℕ, zero, suc, _+_, _*_, _/_, _<_, _^_}
 use native.Mathlib.Nat.{mul-one, mul-assoc, mul-comm, mul-right-comm, mul-suc, pow-suc, zero-mul, add-zero, add-suc}
 use native.Mathlib.Omega.{arith}
 use lib.Bits.{bitXor, xor-zero-r, xor-lt}
 use lib.ListN.{length}
-use Rattle.crc.specs.Polynomial.{Degree8, Remainder, remainder}
-use Rattle.crc.specs.Check.{Bytes, message, checkFrom}
+use Rattle.crc.specs.Polynomial.{Degree8, Remainder}
+use Rattle.crc.specs.Check.{Bytes, message, startedMessage, checkFrom}
 use Rattle.crc.specs.Steps.{step, steps, worked}
 use Rattle.crc.proofs.Xor.{xor-assoc, xor-times}
-use Rattle.crc.proofs.Product.{Alike, alike-refl, alike-trans, alike-plus, alike-twice, alike-shift}
+use Rattle.crc.proofs.Product.{Alike, alike-of, remainder-of, alike-refl, alike-trans, alike-plus, alike-twice, alike-shift}
 use Rattle.crc.proofs.Remainders.{reduced, remainder-is, one-remainder}
 
 pow-plus : (j k : ℕ) → 2 ^ (j + k) ≡ 2 ^ j * 2 ^ k
@@ -21,7 +21,10 @@ pow-plus j (suc k) = simp (add-suc, pow-suc, ← mul-assoc) (ap (λ (x : ℕ). x
 
 -- eight places and n bytes up, in either order
 up : (a n : ℕ) → a * 2 ^ (8 * suc n) ≡ a * 2 ^ 8 * 2 ^ (8 * n)
-up a n = ap (λ (e : ℕ). a * 2 ^ e) (mul-suc 8 n) ∙ ap (λ (y : ℕ). a * y) (pow-plus (8 * n) 8 ∙ mul-comm (2 ^ (8 * n)) (2 ^ 8)) ∙ sym (mul-assoc a (2 ^ 8) (2 ^ (8 * n)))
+up a n =
+    ap (λ (e : ℕ). a * 2 ^ e) (mul-suc 8 n)
+    ∙ ap (λ (y : ℕ). a * y) (pow-plus (8 * n) 8 ∙ mul-comm (2 ^ (8 * n)) (2 ^ 8))
+    ∙ sym (mul-assoc a (2 ^ 8) (2 ^ (8 * n)))
 
 -- a start stands over the first byte b of the message: the two are one sum, before the n bytes m
 brought-in : (s b m n : ℕ)
@@ -48,7 +51,7 @@ module _ {g : ℕ} (d : Degree8 g) where
   alike-steps zero r h = simp mul-one (alike-refl r)
   alike-steps (suc k) r h =
       let s : Remainder g (steps g k r * 2) (step g (steps g k r)) = step-is (steps g k r) (steps-low k r h) in
-      simp (pow-suc, ← mul-assoc) (alike-trans (alike-twice (alike-steps k r h)) (record { by = s .quotient; is = s .sum }))
+      simp (pow-suc, ← mul-assoc) (alike-trans (alike-twice (alike-steps k r h)) (alike-of s))
 
   pub worked-low : (s : ℕ) (bs : List ℕ) → s < 256 → Bytes bs → worked g s bs < 256
   unfolding worked
@@ -56,7 +59,7 @@ module _ {g : ℕ} (d : Degree8 g) where
   worked-low s (b ∷ bs) hs (hb, hbs) = worked-low (steps g 8 (bitXor s b)) bs (steps-low 8 (bitXor s b) (xor-lt 8 s b hs hb)) hbs
 
   -- the check goes on from the check s of what came before
-  alike-worked : (s : ℕ) (bs : List ℕ) → s < 256 → Bytes bs → Alike g (bitXor (s * 2 ^ (8 * length bs)) (message bs * 2 ^ 8)) (worked g s bs)
+  alike-worked : (s : ℕ) (bs : List ℕ) → s < 256 → Bytes bs → Alike g (startedMessage s bs) (worked g s bs)
   unfolding worked
   alike-worked s [] hs hb = simp (mul-one, zero-mul, xor-zero-r) (alike-refl s)
   alike-worked s (b ∷ bs) hs (hb, hbs) =
@@ -68,6 +71,4 @@ module _ {g : ℕ} (d : Degree8 g) where
   pub worked-is-check : (s : ℕ) (bs : List ℕ) → s < 256 → Bytes bs → worked g s bs ≡ checkFrom g s bs
   unfolding checkFrom
   worked-is-check s bs hs hb =
-      let a : Alike g (bitXor (s * 2 ^ (8 * length bs)) (message bs * 2 ^ 8)) (worked g s bs) = alike-worked s bs hs hb in
-      one-remainder d (record { quotient = a .by; sum = a .is; low = worked-low s bs hs hb })
-      (remainder-is d (bitXor (s * 2 ^ (8 * length bs)) (message bs * 2 ^ 8)))
+      one-remainder d (remainder-of (alike-worked s bs hs hb) (worked-low s bs hs hb)) (remainder-is d (startedMessage s bs))

@@ -8,12 +8,7 @@ use Rattle.crc.specs.Polynomial.{x, plus, remainder}
 abbrev pub commandPolynomial : ℕ
 commandPolynomial = x ^ 8 + x ^ 7 + x ^ 5 + x ^ 4 + x ^ 3 + x
 
--- every number of the list is a byte
-abbrev pub Bytes : List ℕ → Type 0
-Bytes [] = Unit
-Bytes (b ∷ bs) = (b < 256) × Bytes bs
-
--- the bytes as one polynomial, "highest bit first": the first byte stands highest
+-- a message as one polynomial, "highest bit first": its first byte stands highest
 abbrev pub message : List ℕ → ℕ
 message [] = 0
 message (b ∷ bs) = plus (b * x ^ (8 * length bs)) (message bs)
@@ -22,10 +17,6 @@ message (b ∷ bs) = plus (b * x ^ (8 * length bs)) (message bs)
 unfoldable pub checkOf : ℕ → List ℕ → ℕ
 checkOf g bs = remainder g (message bs * x ^ 8)
 
--- The same from a start s, which is added to the first byte of the message. Of an empty message it is s.
-unfoldable pub checkFrom : ℕ → ℕ → List ℕ → ℕ
-checkFrom g s bs = remainder g (plus (s * x ^ (8 * length bs)) (message bs * x ^ 8))
-
 -- "all payload bytes but the last"
 abbrev pub allButLast : List ℕ → List ℕ
 allButLast p = take (length p - 1) p
@@ -33,3 +24,15 @@ allButLast p = take (length p - 1) p
 -- "The message is byte 0x32, then all payload bytes but the last."
 unfoldable pub payloadCheck : List ℕ → ℕ
 payloadCheck p = checkOf commandPolynomial (0x32 ∷ allButLast p)
+
+-- From a start other than 0, as the check of what came before: s is added to the first byte of the message. Of no bytes, the check is s.
+abbrev pub startedMessage : ℕ → List ℕ → ℕ
+startedMessage s bs = plus (s * x ^ (8 * length bs)) (message bs * x ^ 8)
+
+unfoldable pub checkFrom : ℕ → ℕ → List ℕ → ℕ
+checkFrom g s bs = remainder g (startedMessage s bs)
+
+-- What laws ask of a message: each of its numbers is a byte. A slice's always are.
+abbrev pub Bytes : List ℕ → Type 0
+Bytes [] = Unit
+Bytes (b ∷ bs) = (b < 256) × Bytes bs

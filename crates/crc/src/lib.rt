@@ -1,6 +1,6 @@
 // The check of document 01, "The payload and its check": the Rust's COMMAND_CRC_ALGO, by bit.
 ghost use mathlib.Core.Path.{_≡_};
-ghost use Prim.Native.Nat.{_+_, _-_};
+ghost use Prim.Native.Nat.{_-_};
 ghost use Rattle.crc.specs.Check.{commandPolynomial, checkFrom, payloadCheck};
 ghost use Rattle.crc.specs.Steps.{step, steps};
 
@@ -10,21 +10,25 @@ const COMMAND_POLYNOMIAL: u8 = 0xBA;
 // The frame type, first byte of the message.
 const COMMAND_TYPE: u8 = 0x32;
 
-// One step of the long division by x^8 + p.
-fn shift(p: u8, r: u8) -> u8
-    ensures { λ s. ⌜ s ≡ step (256 + p) r ⌝ }
+// One step of the long division. With the polynomial a constant here the compiler makes a table of the loop below.
+fn shift(r: u8) -> u8
+    ensures { λ s. ⌜ s ≡ step commandPolynomial r ⌝ }
 {
-    if r < 128 { r * 2 } else { (r - 128) * 2 ^ p }
+    if r < 128 {
+        r * 2
+    } else {
+        (r - 128) * 2 ^ COMMAND_POLYNOMIAL
+    }
 }
 
-// The eight steps of one byte. The polynomial is a constant of this loop, which is how the compiler comes to make a table of it.
+// The eight steps of one byte.
 fn eight_steps(r: u8) -> u8
     ensures { λ s. ⌜ s ≡ steps commandPolynomial 8 r ⌝ }
 {
     let mut s = r;
     let mut i: usize = 0;
     while i < 8 {
-        s = shift(COMMAND_POLYNOMIAL, s);
+        s = shift(s);
         i += 1;
     }
     s
