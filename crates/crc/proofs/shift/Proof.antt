@@ -1,4 +1,5 @@
 -- One step, below degree 8 and at it. Assumes nothing.
+use Rattle.crc.proofs.Laws.{command}
 use Rattle.crc.proofs.Loops.{step-small, step-large}
 use borrow.Author.Needs.{needs}
 use Rattle.crc.proofs.shift.Statement.{statement}
@@ -14,7 +15,7 @@ returns : tie.Need-returns
 returns c = step-small _ _ (search needs)
 
 returns-2 : tie.Need-returns-2
-returns-2 c = step-large 0xBA _ (search needs) (search needs) (search needs)
+returns-2 c = step-large command _ (search needs) (search needs)
 
 pub shift-spec : {M : Type 1} → statement M
 shift-spec = tie.close (tie.spec mul-result mul-result-2 returns returns-2)
