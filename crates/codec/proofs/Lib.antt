@@ -1,0 +1,11 @@
+pub mod Digits
+pub mod Back
+pub mod Loops
+pub mod Items
+pub mod Texts
+pub mod Puts
+pub mod Stops
+pub mod Patch
+pub mod Forth
+pub mod Joins
+pub mod Writes

@@ -1,0 +1,16 @@
+use borrow.Author.Tests.{lt-ltb, le-ltb}
+use Rattle.codec.proofs.writer.room_for.Statement.{statement}
+use Rattle.codec.proofs.writer.room_for.Tie as tie
+use Rattle.codec.proofs.writer.room_for.Reads as reads
+use Rattle.codec.proofs.writer.room_for.Lts as lts
+
+-- src/writer.rt:21:1
+returns : tie.Need-returns
+returns c = rw (lt-ltb _ _ (c .if1 .taken))
+
+-- src/writer.rt:21:1
+returns-2 : tie.Need-returns-2
+returns-2 c = rw (le-ltb _ _ (c .if1 .left))
+
+pub room-for-spec : {M : Type 1} → statement M
+room-for-spec = tie.close (tie.spec returns returns-2)

@@ -1,0 +1,9 @@
+pub mod Pick
+pub mod Digits
+pub mod Sheet
+pub mod Reading
+pub mod Writing
+pub mod Sound
+pub mod Edit
+pub mod Refusals
+pub mod Told
