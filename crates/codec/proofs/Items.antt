@@ -62,10 +62,6 @@ pub number-there : (w lo hi : ℕ) (s : List ℕ) (at n x : ℕ) (t : Bool) → 
 number-there w lo hi s at n x t h e f g =
     number-is w lo hi s at x (rw (← h) (test-false (length s) (at + n) t e f)) (rw (← h) (g .0), rw (← h) (g .1))
 
--- ---- a packed item from its bytes' number: what stands in the way of one stands in the way of the other
-abbrev pub whole : ℕ → Item
-whole w = packed w (field (8 * w) 0 (2 ^ (8 * w) - 1) ∷ [])
-
 -- ---- a flag
 pub flag-bit : (n : ℕ) → n ≤ 1 → bit (eqb n 1) ≡ n
 flag-bit zero h = refl

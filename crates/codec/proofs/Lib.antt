@@ -9,3 +9,4 @@ pub mod Patch
 pub mod Forth
 pub mod Joins
 pub mod Writes
+pub mod Packed

@@ -10,8 +10,8 @@ use lib.Dec.{ltb, eqb}
 use borrow.Author.Tests.{le-ltb, lt-ltb, ltb-true, ltb-false}
 use Rattle.codec.specs.Pick.{pick}
 use Rattle.codec.specs.Digits.{bytesOf}
-use Rattle.codec.specs.Sheet.{Answer, got, refused, first}
-use Rattle.codec.specs.Writing.{counted, leaves, putAt, stopRoom}
+use Rattle.codec.specs.Sheet.{Row, said, Answer, got, refused, first}
+use Rattle.codec.specs.Writing.{okItems, itemsOf, writeBody, counted, leaves, putAt, stopRoom, stopInOrder}
 use Rattle.codec.specs.Refusals.{refusalNumber}
 use Rattle.codec.specs.Told.{toldNumber, toldFlag, toldText, textIn, toldWritten, Writes, bit}
 use Rattle.codec.specs.declared.refusal.Refusal.{Refusal}
@@ -24,6 +24,8 @@ use Rattle.codec.specs.declared.writer.Written.{Written}
 use Rattle.codec.specs.declared.writer.Written.the-variants.{Count, Refused as RefusedWrite}
 
 use Rattle.codec.proofs.Digits.{length-bytesOf}
+use Rattle.codec.proofs.Loops.{sets-append}
+use Rattle.codec.proofs.Stops.{room-only}
 
 -- ---- the refusal of a number
 abbrev pub refusalOf : ℕ → Refusal
@@ -128,3 +130,67 @@ put-number-not s at n w v e h = put-not s at (bytesOf w v) (rw (length-bytesOf w
 
 pub put-number-is : (s s' : List ℕ) (at n w v : ℕ) → n ≡ w → at + n ≤ length s → s' ≡ sets s at (bytesOf n v) → s' ≡ putAt s at (bytesOf w v)
 put-number-is s s' at n w v e h g = (rw e at g) ∙ sym (put-fits s at (bytesOf w v) (rw (length-bytesOf w v, ← e) h))
+
+-- ---- a writer's two ends: it counts what it put, or leaves all as it was
+pub free : (stop n m : ℕ) → got n ≡ counted stop m → (stop ≡ 0) × (n ≡ m)
+free zero n m h = (refl, cc)
+free (suc k) n m h = let z : _≡_ {A = ℕ} 0 1 = cc in absurd (omega arith)
+
+pub writes-count : (stop n : ℕ) (w s s' : List ℕ) → got n ≡ counted stop (length w) → s' ≡ sets s 0 w → Writes stop w (Count n) s s'
+writes-count zero n w s s' h e = (h, e)
+writes-count (suc k) n w s s' h e = let z : _≡_ {A = ℕ} 0 1 = cc in absurd (omega arith)
+
+pub writes-refused : (stop : ℕ) (w s : List ℕ) (r : Refusal) → refused (refusalNumber r) 0 ≡ counted stop (length w) → Writes stop w (RefusedWrite r) s s
+writes-refused zero w s r h = let z : _≡_ {A = ℕ} 0 1 = cc in absurd (omega arith)
+writes-refused (suc k) w s r h = (h, refl)
+
+-- where only the room is looked at
+pub room-there : (room n : ℕ) → n ≤ room → stopRoom room n ≡ 0
+room-there room n h = rw (le-ltb room n h)
+
+pub room-not : (room n : ℕ) → room < n → stopRoom room n ≡ 3
+room-not room n h = rw (lt-ltb room n h)
+
+pub writes-room : (s w s' : List ℕ) → length w ≤ length s → s' ≡ sets s 0 w → Writes (stopRoom (length s) (length w)) w (Count (length w)) s s'
+writes-room s w s' h e = writes-count (stopRoom (length s) (length w)) (length w) w s s' (rw (room-there (length s) (length w) h)) e
+
+pub writes-none : (s w : List ℕ) → length s < length w → Writes (stopRoom (length s) (length w)) w (RefusedWrite BufferOverflow) s s
+writes-none s w h = writes-refused (stopRoom (length s) (length w)) w s BufferOverflow (rw (room-not (length s) (length w) h))
+
+-- ---- puts one behind the other
+pub put-first : (s a : List ℕ) → length a ≤ length s → putAt s 0 a ≡ sets s 0 a
+put-first s a h = put-fits s 0 a (omega arith)
+
+pub put-next : (s a b : List ℕ) (n : ℕ) → n ≡ length a → n + length b ≤ length s → putAt (sets s 0 a) n b ≡ sets s 0 (a ++ b)
+put-next s a b n e h =
+    let f : 0 + length a ≡ n = omega arith in
+    put-fits (sets s 0 a) n b (rw (length-sets s 0 a) h) ∙ sym (rw f at (sets-append a b s 0))
+
+pub put-start : (s s' a : List ℕ) → length a ≤ length s → s' ≡ putAt s 0 a → s' ≡ sets s 0 a
+put-start s s' a h e = e ∙ put-first s a h
+
+pub put-on : (s s' s'' a b : List ℕ) (n : ℕ) → s' ≡ sets s 0 a → s'' ≡ putAt s' n b → n ≡ length a → n + length b ≤ length s → s'' ≡ sets s 0 (a ++ b)
+put-on s s' s'' a b n g h e l = (rw g at h) ∙ put-next s a b n e l
+
+-- ---- a family whose values are all in range looks at room only
+pub in-room : (rs : List Row) (sub : ℕ) (vs : List (List ℕ)) (s s' : List ℕ) (n : ℕ) → okItems (itemsOf rs sub) vs ≡ true
+    → length (writeBody rs (said sub vs)) ≡ n → n ≤ length s → s' ≡ sets s 0 (writeBody rs (said sub vs))
+    → Writes (stopInOrder rs (length s) (said sub vs)) (writeBody rs (said sub vs)) (Count n) s s'
+in-room rs sub vs s s' n o e h g =
+    let w = writeBody rs (said sub vs) in
+    rw (room-only rs (length s) sub vs o, ← e) (writes-room s w s' (rw e h) g)
+
+pub no-room : (rs : List Row) (sub : ℕ) (vs : List (List ℕ)) (s : List ℕ) (n : ℕ) → okItems (itemsOf rs sub) vs ≡ true
+    → length (writeBody rs (said sub vs)) ≡ n → length s < n
+    → Writes (stopInOrder rs (length s) (said sub vs)) (writeBody rs (said sub vs)) (RefusedWrite BufferOverflow) s s
+no-room rs sub vs s n o e h =
+    rw (room-only rs (length s) sub vs o) (writes-none s (writeBody rs (said sub vs)) (rw e h))
+
+pub room-writes : (rs : List Row) (sub : ℕ) (vs : List (List ℕ)) (w s s' : List ℕ) (r : Written) → okItems (itemsOf rs sub) vs ≡ true
+    → writeBody rs (said sub vs) ≡ w → Writes (stopRoom (length s) (length w)) w r s s'
+    → Writes (stopInOrder rs (length s) (said sub vs)) (writeBody rs (said sub vs)) r s s'
+room-writes rs sub vs w s s' r o e h =
+    let b = writeBody rs (said sub vs) in
+    let f : stopInOrder rs (length s) (said sub vs) ≡ stopRoom (length s) (length w) = room-only rs (length s) sub vs o ∙ ap (λ (x : List ℕ). stopRoom (length s) (length x)) e in
+    let g : length b ≡ length w = ap length e in
+    (rw (f, g) (h .0), rw (f, e) (h .1))

@@ -6,7 +6,7 @@ ghost use lib.ListN.{length};
 ghost use lib.Seq.{sets};
 ghost use Rattle.codec.specs.Digits.{bytesOf};
 ghost use Rattle.codec.specs.Writing.{stopRoom, counted, putAt};
-ghost use Rattle.codec.specs.Told.{widthOf, toldWritten};
+ghost use Rattle.codec.specs.Told.{widthOf, toldWritten, Writes};
 
 use crate::reader::{beyond, bytes_of, Width};
 use crate::refusal::Refusal;
@@ -71,4 +71,27 @@ pub fn put_bytes(s: &mut [u8], at: usize, t: &[u8])
         return;
     }
     put_each(s, at, t);
+}
+
+// A body that is a sub-command alone.
+pub fn write_alone(sub: u8, s: &mut [u8]) -> Written
+    ensures { λ r. ⌜ Writes (stopRoom (length (now (s .entry))) 1) (sub ∷ []) r (now (s .entry)) (now (s .exit)) ⌝ }
+{
+    if s.len() < 1 {
+        return Written::Refused(Refusal::BufferOverflow);
+    }
+    s[0] = sub;
+    Written::Count(1)
+}
+
+// A body that is a sub-command and one byte.
+pub fn write_with_byte(sub: u8, v: u8, s: &mut [u8]) -> Written
+    ensures { λ r. ⌜ Writes (stopRoom (length (now (s .entry))) 2) (sub ∷ v ∷ []) r (now (s .entry)) (now (s .exit)) ⌝ }
+{
+    if s.len() < 2 {
+        return Written::Refused(Refusal::BufferOverflow);
+    }
+    s[0] = sub;
+    s[1] = v;
+    Written::Count(2)
 }

@@ -1,0 +1,64 @@
+use Prim.Native.Nat.{_<_}
+use mathlib.Core.Path.{refl}
+use mathlib.Core.List.{_∷_, []}
+use native.Mathlib.Omega.{arith}
+use denote.Ref.{now}
+use Rattle.codec.specs.Digits.{bytesOf}
+use Rattle.codec.specs.Told.{bit}
+use Rattle.codec.proofs.Items.{alone}
+use Rattle.codec.proofs.Writes.{in-room, no-room, put-start, put-on}
+use Rattle.families.specs.Sheets.{generalRows}
+use Rattle.families.proofs.Ok.{byte-flag}
+use borrow.Author.Needs.{needs}
+use Rattle.families.proofs.general.write_response.Statement.{statement}
+use Rattle.families.proofs.general.write_response.Tie as tie
+use Rattle.families.proofs.general.write_response.Reads as reads
+use Rattle.families.proofs.general.write_response.Lts as lts
+use Rattle.codec.proofs.writer.put_number.Reads as put-number-reads
+use Rattle.families.proofs.general.bit_of.Reads as bit-of-reads
+
+-- src/general.rt:73:9
+returns : tie.Need-returns
+returns c = let h : c .before .before .args .port < 256 = search needs in
+    no-room generalRows 0x71 ((c .before .before .args .port ∷ []) ∷ (bit (c .before .before .args .accepted) ∷ []) ∷ []) (now (c .before .before .args .body)) 3 (byte-flag (c .before .before .args .port) (c .before .before .args .accepted) h) refl (c .if1 .taken)
+
+-- src/general.rt:75:9
+bit-of-requires : tie.Need-bit-of-requires
+bit-of-requires c κs = search needs
+
+-- src/general.rt:76:5
+put-number-requires : tie.Need-put-number-requires
+put-number-requires c κs = search needs
+
+-- src/general.rt:77:5
+put-number-requires-2 : tie.Need-put-number-requires-2
+put-number-requires-2 c κs = search needs
+
+-- src/general.rt:78:5
+put-number-requires-3 : tie.Need-put-number-requires-3
+put-number-requires-3 c κs = search needs
+
+-- src/general.rt:69:1
+same-length : tie.Need-same-length
+same-length c = search needs
+
+-- src/general.rt:69:1
+returns-2 : tie.Need-returns-2
+returns-2 c = let h : c .before .before .before .before .before .before .before .before .before .before .before .before .before .before .before .args .port < 256 = search needs in
+    let s = now (c .before .before .before .before .before .before .before .before .before .before .before .before .before .before .before .args .body) in
+    let p = put-start s _ (0x71 ∷ []) (omega arith) (c .before .before .before .before .before .before .before .before .before .before .put-number .ensures) in
+    let q = put-on s _ _ (0x71 ∷ []) (bytesOf 1 (c .before .before .before .before .before .before .before .before .before .before .before .before .before .before .before .args .port)) 1 p (c .before .before .before .before .before .before .put-number2 .ensures) refl (omega arith) in
+    let r = put-on s _ _ (0x71 ∷ bytesOf 1 (c .before .before .before .before .before .before .before .before .before .before .before .before .before .before .before .args .port)) (bytesOf 1 (bit (c .before .before .before .before .before .before .before .before .before .before .before .before .before .before .before .args .accepted))) 2 q (rw (c .before .before .before .before .before .before .before .before .before .before .before .before .bit-of .ensures) at (c .before .before .put-number3 .ensures)) refl (omega arith) in
+    in-room generalRows 0x71 ((c .before .before .before .before .before .before .before .before .before .before .before .before .before .before .before .args .port ∷ []) ∷ (bit (c .before .before .before .before .before .before .before .before .before .before .before .before .before .before .before .args .accepted) ∷ []) ∷ []) s _ 3 (byte-flag (c .before .before .before .before .before .before .before .before .before .before .before .before .before .before .before .args .port) (c .before .before .before .before .before .before .before .before .before .before .before .before .before .before .before .args .accepted) h) refl (c .before .before .before .before .before .before .before .before .before .before .before .before .before .if1 .left) (rw (alone (c .before .before .before .before .before .before .before .before .before .before .before .before .before .before .before .args .port), alone (bit (c .before .before .before .before .before .before .before .before .before .before .before .before .before .before .before .args .accepted))) r)
+
+pub write-response-spec : {M : Type 1} → statement M
+write-response-spec =
+    tie.close
+    (tie.spec
+    returns
+    bit-of-requires
+    put-number-requires
+    put-number-requires-2
+    put-number-requires-3
+    same-length
+    returns-2)

@@ -1,0 +1,27 @@
+use Prim.Native.Nat.{_<_}
+use mathlib.Core.Path.{refl}
+use denote.Ref.{now}
+use Rattle.families.specs.Sheets.{osdRows}
+use Rattle.families.proofs.Ok.{with-byte}
+use borrow.Author.Needs.{needs}
+use Rattle.families.proofs.osd.write_to.Statement.{statement}
+use Rattle.families.proofs.osd.write_to.Tie as tie
+use Rattle.families.proofs.osd.write_to.Reads as reads
+use Rattle.families.proofs.osd.write_to.Lts as lts
+use Rattle.codec.proofs.writer.write_with_byte.Reads as write-with-byte-reads
+
+-- src/osd.rt:42:5
+write-with-byte-requires : tie.Need-write-with-byte-requires
+write-with-byte-requires c κs = search needs
+
+-- src/osd.rt:39:1
+same-length : tie.Need-same-length
+same-length c = search needs
+
+-- src/osd.rt:39:1
+returns : tie.Need-returns
+returns c = let h : c .before .before .before .before .before .args .command .buttons < 256 = search needs in
+    with-byte osdRows 0x01 (c .before .before .before .before .before .args .command .buttons) (now (c .before .before .before .before .before .args .body)) _ (c .before .before .write-with-byte .result) refl h (c .before .before .write-with-byte .ensures)
+
+pub write-to-spec : {M : Type 1} → statement M
+write-to-spec = tie.close (tie.spec write-with-byte-requires same-length returns)

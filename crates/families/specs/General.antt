@@ -1,0 +1,17 @@
+-- 0x0A General: what each command says, and what a reading tells. Assumes nothing.
+use mathlib.Core.List.{[], _∷_}
+use Rattle.codec.specs.Sheet.{Answer, got, refused, Said, said}
+use Rattle.codec.specs.Refusals.{refusalNumber}
+use Rattle.codec.specs.Told.{bit}
+use Rattle.families.specs.declared.general.GeneralCommand.{GeneralCommand}
+use Rattle.families.specs.declared.general.GeneralCommand.the-variants.{SpeedProposal, SpeedProposalResponse}
+use Rattle.families.specs.declared.general.GeneralRead.{GeneralRead}
+use Rattle.families.specs.declared.general.GeneralRead.the-variants.{Got, Refused}
+
+abbrev pub generalSays : GeneralCommand → Said
+generalSays (SpeedProposal port baud) = said 0x70 ((port ∷ []) ∷ (baud ∷ []) ∷ [])
+generalSays (SpeedProposalResponse port accepted) = said 0x71 ((port ∷ []) ∷ (bit accepted ∷ []) ∷ [])
+
+abbrev pub toldGeneral : GeneralRead → Answer Said
+toldGeneral (Got c) = got (generalSays c)
+toldGeneral (Refused r) = refused (refusalNumber r) 0

@@ -1,0 +1,4 @@
+pub mod Sheets
+pub mod Fc
+pub mod Osd
+pub mod General
