@@ -11,7 +11,7 @@ use borrow.Author.Tests.{le-ltb, lt-ltb, ltb-true, ltb-false}
 use Rattle.codec.specs.Pick.{pick}
 use Rattle.codec.specs.Digits.{bytesOf}
 use Rattle.codec.specs.Sheet.{Row, said, Answer, got, refused, first}
-use Rattle.codec.specs.Writing.{okItems, itemsOf, writeBody, counted, leaves, putAt, stopRoom, stopInOrder}
+use Rattle.codec.specs.Writing.{okItems, itemsOf, writeBody, counted, leaves, putAt, stopRoom, stopInOrder, stopValuesFirst}
 use Rattle.codec.specs.Refusals.{refusalNumber}
 use Rattle.codec.specs.Told.{toldNumber, toldFlag, toldText, textIn, toldWritten, Writes, bit}
 use Rattle.codec.specs.declared.refusal.Refusal.{Refusal}
@@ -193,4 +193,13 @@ room-writes rs sub vs w s s' r o e h =
     let b = writeBody rs (said sub vs) in
     let f : stopInOrder rs (length s) (said sub vs) ≡ stopRoom (length s) (length w) = room-only rs (length s) sub vs o ∙ ap (λ (x : List ℕ). stopRoom (length s) (length x)) e in
     let g : length b ≡ length w = ap length e in
+    (rw (f, g) (h .0), rw (f, e) (h .1))
+
+-- ---- a family that looks at values first
+pub values-writes : (rs : List Row) (sub : ℕ) (vs : List (List ℕ)) (w s s' : List ℕ) (r : Written) → okItems (itemsOf rs sub) vs ≡ true
+    → writeBody rs (said sub vs) ≡ w → Writes (stopRoom (length s) (length w)) w r s s'
+    → Writes (stopValuesFirst rs (length s) (said sub vs)) (writeBody rs (said sub vs)) r s s'
+values-writes rs sub vs w s s' r o e h =
+    let f : stopValuesFirst rs (length s) (said sub vs) ≡ stopRoom (length s) (length w) = rw o (ap (λ (x : List ℕ). stopRoom (length s) (length x)) e) in
+    let g : length (writeBody rs (said sub vs)) ≡ length w = ap length e in
     (rw (f, g) (h .0), rw (f, e) (h .1))

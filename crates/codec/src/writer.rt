@@ -4,6 +4,7 @@ ghost use Prim.Native.Nat.{_≤_, _+_};
 ghost use mathlib.Core.List.{_++_, _∷_, []};
 ghost use lib.ListN.{length};
 ghost use lib.Seq.{sets};
+ghost use Rattle.codec.specs.Pick.{pick};
 ghost use Rattle.codec.specs.Digits.{bytesOf};
 ghost use Rattle.codec.specs.Writing.{stopRoom, counted, putAt};
 ghost use Rattle.codec.specs.Told.{widthOf, toldWritten, Writes};
@@ -25,6 +26,17 @@ pub fn room_for(room: usize, n: usize) -> Written
         Written::Refused(Refusal::BufferOverflow)
     } else {
         Written::Count(n)
+    }
+}
+
+// Values first, then room: VTX and ACK.
+pub fn values_first(ok: bool, room: usize, n: usize) -> Written
+    ensures { λ r. ⌜ toldWritten r ≡ counted (pick ok (stopRoom room n) 2) n ⌝ }
+{
+    if ok {
+        room_for(room, n)
+    } else {
+        Written::Refused(Refusal::InvalidPayload)
     }
 }
 
