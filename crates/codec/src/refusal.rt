@@ -27,3 +27,9 @@ pub fn number(r: Refusal) -> u8
         Refusal::NumberOutsideRange => 8,
     }
 }
+
+// What an answer that is a struct opens with.
+pub enum Outcome {
+    Accepted,
+    Refused(Refusal),
+}

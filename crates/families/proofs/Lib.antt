@@ -1,1 +1,2 @@
 pub mod Ok
+pub mod Stored

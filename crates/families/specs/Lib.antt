@@ -2,3 +2,8 @@ pub mod Sheets
 pub mod Fc
 pub mod Osd
 pub mod General
+pub mod Text
+pub mod Ack
+pub mod Popup
+pub mod Fields
+pub mod Screen

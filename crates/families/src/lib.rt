@@ -6,3 +6,6 @@ pub mod osd;
 pub mod general;
 //pub mod crossfire;
 //pub mod flow_control;
+pub mod text;
+pub mod ack;
+pub mod screen;

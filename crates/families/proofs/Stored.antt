@@ -1,0 +1,54 @@
+-- Loops over stored bytes, and a part copied over zeros. Assumes nothing.
+use Prim.Native.Nat.{ℕ, zero, suc, _+_, _-_, _<_, _≤_}
+use mathlib.Core.Bool.{Bool, true, false}
+use mathlib.Core.List.{List, [], _∷_, _++_}
+use mathlib.Core.Path.{_≡_, refl, ap, sym, _∙_}
+use native.Mathlib.Omega.{arith}
+use native.Mathlib.Numerals.{add-one}
+use native.Mathlib.Nat.{add-sub-cancel-left, zero-sub, sub-zero, suc-sub-suc}
+use lib.ListN.{length, getD, drop, take, replicate, drop-of-length-le, length-drop}
+use lib.Seq.{drop-cons, take-all, take-length, length-take-le}
+use borrow.Author.Tests.{eq-eqb, ne-eqb}
+use Rattle.codec.specs.Pick.{pick}
+use Rattle.codec.specs.Writing.{nonzero}
+use Rattle.families.specs.Text.{zeros, padded, textOf}
+use Rattle.families.specs.declared.text.CommandString.{CommandString}
+
+pub nonzero-stop : (s : List ℕ) (i : ℕ) → i < length s → getD s i 0 ≡ 0 → nonzero (drop i s) ≡ false
+nonzero-stop s i h e = rw (drop-cons s i 0 h, eq-eqb (getD s i 0) 0 e)
+
+pub nonzero-on : (s : List ℕ) (i : ℕ) → i < length s → (getD s i 0 ≡ 0 → ⊥) → nonzero (drop i s) ≡ nonzero (drop (i + 1) s)
+nonzero-on s i h e = rw (drop-cons s i 0 h, ne-eqb (getD s i 0) 0 e, add-one)
+
+pub nonzero-end : (s : List ℕ) (i : ℕ) → length s ≤ i → nonzero (drop i s) ≡ true
+nonzero-end s i h = rw (drop-of-length-le s h)
+
+pub zeros-stop : (s : List ℕ) (i : ℕ) → i < length s → (getD s i 0 ≡ 0 → ⊥) → zeros (drop i s) ≡ false
+zeros-stop s i h e = rw (drop-cons s i 0 h, ne-eqb (getD s i 0) 0 e)
+
+pub zeros-on : (s : List ℕ) (i : ℕ) → i < length s → getD s i 0 ≡ 0 → zeros (drop i s) ≡ zeros (drop (i + 1) s)
+zeros-on s i h e = rw (drop-cons s i 0 h, eq-eqb (getD s i 0) 0 e, add-one)
+
+pub zeros-end : (s : List ℕ) (i : ℕ) → length s ≤ i → zeros (drop i s) ≡ true
+zeros-end s i h = rw (drop-of-length-le s h)
+
+pub rest-is : (s : List ℕ) (n : ℕ) → take (length s - n) (drop n s) ≡ drop n s
+rest-is s n = take-all (length s - n) (drop n s) (rw length-drop (omega arith))
+
+drop-zeros : (k m : ℕ) → drop {A = ℕ} k (replicate m 0) ≡ replicate (m - k) 0
+drop-zeros zero m = rw sub-zero
+drop-zeros (suc k) zero = rw zero-sub
+drop-zeros (suc k) (suc m) = rw suc-sub-suc (drop-zeros k m)
+
+-- a part that is copied over zeros
+pub copied : (s : List ℕ) (at n m : ℕ) → at + n ≤ length s →
+    take (length (take (at + n - at) (drop at s))) (take (at + n - at) (drop at s)) ++ drop (length (take (at + n - at) (drop at s))) (replicate m 0) ≡ padded m (take n (drop at s))
+copied s at n m h = rw (add-sub-cancel-left at n, take-length, drop-zeros)
+
+
+-- the same as a text: its length is that of its bytes
+pub text-is : (s b : List ℕ) (at n : ℕ) → at + n ≤ length s → b ≡ padded 51 (take n (drop at s)) → record { len = n; bytes = b } ≡ textOf (take n (drop at s))
+text-is s b at n h e =
+    let k : n ≤ length (drop at s) = rw length-drop (omega arith) in
+    let l : length (take n (drop at s)) ≡ n = length-take-le n (drop at s) k in
+    rw (e, l)

@@ -1,0 +1,89 @@
+// Texts, and stored bytes: a fixed array with a length in place of the Rust's Vec.
+ghost use mathlib.Core.Path.{_≡_};
+ghost use Prim.Native.Nat.{_≤_, _+_};
+ghost use lib.ListN.{length, take, drop};
+ghost use Rattle.codec.specs.Writing.{nonzero};
+ghost use Rattle.families.specs.Text.{zeros, madeBytes, madeText, padded, textOf};
+
+use codec::refusal::Outcome;
+
+pub struct CommandString {
+    pub len: usize,
+    pub bytes: [u8; 51],
+}
+
+pub struct TextAnswer {
+    pub outcome: Outcome,
+    pub text: CommandString,
+}
+
+pub(crate) fn all_nonzero(s: &[u8]) -> bool
+    ensures { λ r. ⌜ r ≡ nonzero (now (s .entry)) ⌝ }
+{
+    let mut i = 0;
+    while i < s.len() {
+        if s[i] == 0 {
+            return false;
+        }
+        i += 1;
+    }
+    true
+}
+
+pub(crate) fn all_zero(s: &[u8]) -> bool
+    ensures { λ r. ⌜ r ≡ zeros (now (s .entry)) ⌝ }
+{
+    let mut i = 0;
+    while i < s.len() {
+        if s[i] != 0 {
+            return false;
+        }
+        i += 1;
+    }
+    true
+}
+
+// Stored bytes: at most so many, nonzero, and zeros after them.
+pub(crate) fn made_bytes(s: &[u8], n: usize, most: usize) -> bool
+    requires { ⌜ most ≤ length (now s) ⌝ }
+    ensures { λ r. ⌜ r ≡ madeBytes most n (now (s .entry)) ⌝ }
+{
+    if most < n {
+        return false;
+    }
+    if all_nonzero(&s[..n]) {
+        return all_zero(&s[n..]);
+    }
+    false
+}
+
+// The n bytes from a place on, and zeros.
+pub(crate) fn stored(s: &[u8], at: usize, n: usize) -> [u8; 55]
+    requires { ⌜ (at + n ≤ length (now s)) × (n ≤ 55) ⌝ }
+    ensures { λ r. ⌜ r ≡ padded 55 (take n (drop at (now (s .entry)))) ⌝ }
+{
+    let mut out = [0u8; 55];
+    let e = at + n;
+    bytes::copy(&s[at..e], &mut out);
+    out
+}
+
+// The text of the n bytes from a place on.
+pub(crate) fn text_at(s: &[u8], at: usize, n: usize) -> CommandString
+    requires { ⌜ (at + n ≤ length (now s)) × (n ≤ 51) ⌝ }
+    ensures { λ r. ⌜ r ≡ textOf (take n (drop at (now (s .entry)))) ⌝ }
+{
+    let mut out = [0u8; 51];
+    let e = at + n;
+    bytes::copy(&s[at..e], &mut out);
+    CommandString { len: n, bytes: out }
+}
+
+impl CommandString {
+    pub fn made(self) -> bool
+        ensures { λ r. ⌜ r ≡ madeText self ⌝ }
+    {
+        let b = self.bytes;
+        made_bytes(&b, self.len, 51)
+    }
+}
