@@ -82,8 +82,15 @@ items-back (i ∷ is) (v ∷ vs) pre post s h =
     let b = itemBytes i v in
     let l : length pre + sizeOf i v ≡ length (pre ++ b) = rw (length-append, size-is) in
     let e : pre ++ ((b ++ writeItems is vs) ++ post) ≡ (pre ++ b) ++ (writeItems is vs ++ post) = simp append-assoc in
-    rw (append-assoc b (writeItems is vs) post, drop-append-seam pre (b ++ (writeItems is vs ++ post)), item-back i v (writeItems is vs ++ post) (t .0) (o .0),
-      ← append-assoc b (writeItems is vs) post, e, l, items-back is vs (pre ++ b) post (t .1) (o .1))
+    rw (
+      append-assoc b (writeItems is vs) post,
+      drop-append-seam pre (b ++ (writeItems is vs ++ post)),
+      item-back i v (writeItems is vs ++ post) (t .0) (o .0),
+      ← append-assoc b (writeItems is vs) post,
+      e,
+      l,
+      items-back is vs (pre ++ b) post (t .1) (o .1),
+    )
 
 -- a sub-command that has a row reads that row's items
 abbrev RowOf : List Row → List ℕ → ℕ → Type 0

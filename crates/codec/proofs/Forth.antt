@@ -107,7 +107,10 @@ items-forth (i ∷ is) s at vs x y l h =
     let g = items-forth is s (at + sizeOf i v) ws (b .1) y k (q .1 .0) in
     let w = writeItems is ws in
     let n : length (itemBytes i v ++ w) ≡ sizeOf i v + length w = rw (length-append, size-is) in
-    let d : drop (sizeOf i v) (drop at s) ≡ drop (at + sizeOf i v) s = drop-drop (sizeOf i v) at s in
-    (rw (e, f .0) (g .0),
-    (rw (e, n) (omega (arith, g .1 .0)),
-    rw (e, n, take-add (sizeOf i v) (length w) (drop at s), f .1 .1, d, g .1 .1)))
+    let d : drop (sizeOf i v) (drop at s) ≡ drop (at + sizeOf i v) s = drop-drop (sizeOf i v) at s in (
+      rw (e, f .0) (g .0),
+      (
+        rw (e, n) (omega (arith, g .1 .0)),
+        rw (e, n, take-add (sizeOf i v) (length w) (drop at s), f .1 .1, d, g .1 .1),
+      ),
+    )

@@ -56,7 +56,7 @@ each-of (i ∷ is) (v ∷ vs) h = let o = both (okItem i v) (okItems is vs) h in
 -- items that are in range stop only at the room for all of them; then the rest decides
 pub stop-join : (n room at : ℕ) (is js : List Item) (xs ys : List (List ℕ)) → okItems is xs ≡ true → at ≤ room
     → stopEach n room at (is ++ js) (xs ++ ys)
-      ≡ pick (ltb room (at + length (writeItems is xs))) n (stopEach n room (at + length (writeItems is xs)) js ys)
+    ≡ pick (ltb room (at + length (writeItems is xs))) n (stopEach n room (at + length (writeItems is xs)) js ys)
 stop-join n room at [] js [] ys o h = rw (add-zero at, le-ltb room at h)
 stop-join n room at [] js (x ∷ xs) ys o h = let z : _≡_ {A = ℕ} 0 1 = cc in absurd (omega arith)
 stop-join n room at (i ∷ is) js [] ys o h = let z : _≡_ {A = ℕ} 0 1 = cc in absurd (omega arith)
@@ -67,8 +67,8 @@ stop-join n room at (i ∷ is) js (x ∷ xs) ys o h =
   where
     by : (t : Bool) → ltb room (at + sizeOf i x) ≡ t
         → (at + sizeOf i x ≤ room → stopEach n room (at + sizeOf i x) (is ++ js) (xs ++ ys)
-            ≡ pick (ltb room (at + sizeOf i x + length (writeItems is xs))) n (stopEach n room (at + sizeOf i x + length (writeItems is xs)) js ys))
+        ≡ pick (ltb room (at + sizeOf i x + length (writeItems is xs))) n (stopEach n room (at + sizeOf i x + length (writeItems is xs)) js ys))
         → pick t n (stopEach n room (at + sizeOf i x) (is ++ js) (xs ++ ys))
-            ≡ pick (ltb room (at + sizeOf i x + length (writeItems is xs))) n (stopEach n room (at + sizeOf i x + length (writeItems is xs)) js ys)
+        ≡ pick (ltb room (at + sizeOf i x + length (writeItems is xs))) n (stopEach n room (at + sizeOf i x + length (writeItems is xs)) js ys)
     by true p go = let l = ltb-true room (at + sizeOf i x) p in rw (lt-ltb room (at + sizeOf i x + length (writeItems is xs)) (omega arith))
     by false p go = go (ltb-false room (at + sizeOf i x) p)

@@ -10,3 +10,4 @@ pub mod Forth
 pub mod Joins
 pub mod Writes
 pub mod Packed
+pub mod OneAnswer

@@ -20,7 +20,7 @@ number-snoc (y ∷ xs) x =
     let l : length (xs ++ x ∷ []) ≡ n + 1 = length-append xs (x ∷ []) in
     let e : 2 ^ (8 * (n + 1)) ≡ 2 ^ (8 * n) * 256 = ap (λ (k : ℕ). 2 ^ k) (let g : 8 * (n + 1) ≡ 8 * n + 8 = omega arith in g) ∙ pow-add 2 (8 * n) 8 in
     let h : y * 2 ^ sum (replicate (length (xs ++ x ∷ [])) 8) ≡ y * 2 ^ sum (replicate n 8) * 256 =
-        rw (sum-eights, l, e, ← mul-assoc, sum-eights) in
+    rw (sum-eights, l, e, ← mul-assoc, sum-eights) in
     omega (arith, h, number-snoc xs x)
 
 pub number-turn : (s : List ℕ) (at i n : ℕ) → at + i < length s → n ≡ numberOf (take i (drop at s))

@@ -93,8 +93,8 @@ item-at (t ∷ is) (v ∷ vs) (suc i) w l h e =
 pub patch : (is : List Item) (vs : List (List ℕ)) (i j n w : ℕ) (fs : List Field)
     → soundItems is ≡ true → okItems is vs ≡ true → i < length is → getD is i (text 0 0) ≡ packed w fs → j < length (widths fs)
     → writeItems is (setValue vs i j n)
-      ≡ sets (writeItems is vs) (placeOf is vs i)
-        (bytesOf w (replaced (2 ^ below (widths fs) j) (2 ^ getD (widths fs) j 0) (numberOf (take w (drop (placeOf is vs i) (writeItems is vs)))) n))
+    ≡ sets (writeItems is vs) (placeOf is vs i)
+    (bytesOf w (replaced (2 ^ below (widths fs) j) (2 ^ getD (widths fs) j 0) (numberOf (take w (drop (placeOf is vs i) (writeItems is vs)))) n))
 patch is vs i j n w fs s o h e l =
     let v = getD vs i [] in
     let bs = widths fs in
@@ -145,9 +145,9 @@ place-room (t ∷ is) (v ∷ vs) (suc i) l h = rw (length-append, size-is) (omeg
 pub patch-in : (hd post : List ℕ) (is : List Item) (vs : List (List ℕ)) (i j n w : ℕ) (fs : List Field)
     → soundItems is ≡ true → okItems is vs ≡ true → i < length is → getD is i (text 0 0) ≡ packed w fs → j < length (widths fs)
     → sets (hd ++ (writeItems is vs ++ post)) (length hd + placeOf is vs i)
-        (bytesOf w (replaced (2 ^ below (widths fs) j) (2 ^ getD (widths fs) j 0)
-          (numberOf (take w (drop (length hd + placeOf is vs i) (hd ++ (writeItems is vs ++ post))))) n))
-      ≡ hd ++ (writeItems is (setValue vs i j n) ++ post)
+    (bytesOf w (replaced (2 ^ below (widths fs) j) (2 ^ getD (widths fs) j 0)
+    (numberOf (take w (drop (length hd + placeOf is vs i) (hd ++ (writeItems is vs ++ post))))) n))
+    ≡ hd ++ (writeItems is (setValue vs i j n) ++ post)
 patch-in hd post is vs i j n w fs s o h e l =
     let b = writeItems is vs in
     let p = placeOf is vs i in
@@ -155,7 +155,7 @@ patch-in hd post is vs i j n w fs s o h e l =
     let k : w ≤ length (drop p b) = rw length-drop (omega arith) in
     let q : p ≤ length b = omega arith in
     let x : take w (drop (length hd + p) (hd ++ (b ++ post))) ≡ take w (drop p b) =
-        rw (drop-append-add hd (b ++ post) p, drop-append-le p b post q, take-append-le w (drop p b) post k) in
+    rw (drop-append-add hd (b ++ post) p, drop-append-le p b post q, take-append-le w (drop p b) post k) in
     let y = replaced (2 ^ below (widths fs) j) (2 ^ getD (widths fs) j 0) (numberOf (take w (drop p b))) n in
     let m : p + length (bytesOf w y) ≤ length b = rw (length-bytesOf w y) r in
     rw (x, sets-right hd (b ++ post) (bytesOf w y) p, sets-left b post (bytesOf w y) p m, patch is vs i j n w fs s o h e l)

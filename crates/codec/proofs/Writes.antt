@@ -22,7 +22,6 @@ use Rattle.codec.specs.declared.reader.FlagRead.{FlagRead}
 use Rattle.codec.specs.declared.reader.FlagRead.the-variants.{Got as GotFlag, Refused as RefusedFlag}
 use Rattle.codec.specs.declared.writer.Written.{Written}
 use Rattle.codec.specs.declared.writer.Written.the-variants.{Count, Refused as RefusedWrite}
-
 use Rattle.codec.proofs.Digits.{length-bytesOf}
 use Rattle.codec.proofs.Loops.{sets-append}
 use Rattle.codec.proofs.Stops.{room-only}

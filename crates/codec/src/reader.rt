@@ -7,7 +7,6 @@ ghost use Rattle.codec.specs.Digits.{numberOf};
 ghost use Rattle.codec.specs.Sheet.{number, flag, text};
 ghost use Rattle.codec.specs.Reading.{before0, readItem};
 ghost use Rattle.codec.specs.Told.{widthOf, toldNumber, atMost, toldFlag, toldText, textIn};
-
 use crate::refusal::Refusal;
 
 pub enum Width {
@@ -128,5 +127,8 @@ pub fn read_text(s: &[u8], at: usize, most: usize) -> TextRead
     if most < end - at {
         return TextRead::Refused(Refusal::InvalidPayloadLength);
     }
-    TextRead::Got { len: end - at, next: end + 1 }
+    TextRead::Got {
+        len: end - at,
+        next: end + 1,
+    }
 }

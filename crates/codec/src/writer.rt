@@ -8,8 +8,9 @@ ghost use Rattle.codec.specs.Pick.{pick};
 ghost use Rattle.codec.specs.Digits.{bytesOf};
 ghost use Rattle.codec.specs.Writing.{stopRoom, counted, putAt};
 ghost use Rattle.codec.specs.Told.{widthOf, toldWritten, Writes};
-
-use crate::reader::{beyond, bytes_of, Width};
+use crate::reader::Width;
+use crate::reader::beyond;
+use crate::reader::bytes_of;
 use crate::refusal::Refusal;
 
 // What writing a body answers.

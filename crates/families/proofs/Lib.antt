@@ -1,2 +1,6 @@
 pub mod Ok
 pub mod Stored
+pub mod Inverse
+pub mod RoundTrip
+pub mod OneAnswer
+pub mod Examples

@@ -45,7 +45,6 @@ pub copied : (s : List ℕ) (at n m : ℕ) → at + n ≤ length s →
     take (length (take (at + n - at) (drop at s))) (take (at + n - at) (drop at s)) ++ drop (length (take (at + n - at) (drop at s))) (replicate m 0) ≡ padded m (take n (drop at s))
 copied s at n m h = rw (add-sub-cancel-left at n, take-length, drop-zeros)
 
-
 -- the same as a text: its length is that of its bytes
 pub text-is : (s b : List ℕ) (at n : ℕ) → at + n ≤ length s → b ≡ padded 51 (take n (drop at s)) → record { len = n; bytes = b } ≡ textOf (take n (drop at s))
 text-is s b at n h e =

@@ -108,7 +108,8 @@ fieldsOf (popup k p vs) = record {
   «default_value» = first (chosen k vs 8);
   unit = textOf (chosen k vs 9);
   «has_possible_values» = p;
-  «possible_values» = textOf (getD vs (valuesAt k) []) }
+  «possible_values» = textOf (getD vs (valuesAt k) []);
+}
 
 -- "blank popup fields are blank texts, zeros, close flag off and nothing optional present": a popup that says nothing
 abbrev pub blankFields : ScreenPopupFields
@@ -156,4 +157,5 @@ blanked f = record {
   «default_value» = ifChosen (f .«additional_data») (f .«default_value») 0;
   unit = ifChosen (f .«additional_data») (f .unit) (textOf []);
   «has_possible_values» = f .«has_possible_values»;
-  «possible_values» = pick (f .«has_possible_values») (f .«possible_values») (textOf []) }
+  «possible_values» = pick (f .«has_possible_values») (f .«possible_values») (textOf []);
+}

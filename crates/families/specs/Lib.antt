@@ -2,6 +2,8 @@ pub mod Sheets
 pub mod Fc
 pub mod Osd
 pub mod General
+pub mod Crossfire
+pub mod FlowControl
 pub mod Text
 pub mod Ack
 pub mod Popup

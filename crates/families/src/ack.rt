@@ -4,8 +4,8 @@ ghost use lib.ListN.{length, take};
 ghost use Rattle.codec.specs.Writing.{writeItems};
 ghost use Rattle.codec.specs.Told.{Writes};
 ghost use Rattle.families.specs.Ack.{ackItems, readAck, ackSays, stopAck, newAck, AckIs, madeInformation};
-
-use codec::refusal::{Outcome, Refusal};
+use codec::refusal::Outcome;
+use codec::refusal::Refusal;
 use codec::writer::Written;
 
 // The information stands beside it.

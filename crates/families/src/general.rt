@@ -8,8 +8,9 @@ ghost use Rattle.codec.specs.Writing.{writeBody, stopInOrder};
 ghost use Rattle.codec.specs.Told.{Writes, bit};
 ghost use Rattle.families.specs.Sheets.{generalRows};
 ghost use Rattle.families.specs.General.{generalSays, toldGeneral};
-
-use codec::reader::{FlagRead, NumberRead, Width};
+use codec::reader::FlagRead;
+use codec::reader::NumberRead;
+use codec::reader::Width;
 use codec::refusal::Refusal;
 use codec::writer::Written;
 
@@ -29,15 +30,27 @@ pub fn read(body: &[u8]) -> GeneralRead
     match codec::reader::read_number(body, 0, Width::One, 0, 255) {
         NumberRead::Got(sub) => match sub {
             0x70 => match codec::reader::read_number(body, 1, Width::One, 0, 255) {
-                NumberRead::Got(p) => match codec::reader::read_number(body, 2, Width::Four, 0, 4294967295) {
-                    NumberRead::Got(b) => GeneralRead::Got(GeneralCommand::SpeedProposal { port_id: p as u8, proposed_baudrate: b }),
+                NumberRead::Got(p) => match codec::reader::read_number(
+                    body,
+                    2,
+                    Width::Four,
+                    0,
+                    4294967295,
+                ) {
+                    NumberRead::Got(b) => GeneralRead::Got(GeneralCommand::SpeedProposal {
+                        port_id: p as u8,
+                        proposed_baudrate: b,
+                    }),
                     NumberRead::Refused(r) => GeneralRead::Refused(r),
                 },
                 NumberRead::Refused(r) => GeneralRead::Refused(r),
             },
             0x71 => match codec::reader::read_number(body, 1, Width::One, 0, 255) {
                 NumberRead::Got(p) => match codec::reader::read_flag(body, 2) {
-                    FlagRead::Got(a) => GeneralRead::Got(GeneralCommand::SpeedProposalResponse { port_id: p as u8, accepted: a }),
+                    FlagRead::Got(a) => GeneralRead::Got(GeneralCommand::SpeedProposalResponse {
+                        port_id: p as u8,
+                        accepted: a,
+                    }),
                     FlagRead::Refused(r) => GeneralRead::Refused(r),
                 },
                 NumberRead::Refused(r) => GeneralRead::Refused(r),
@@ -83,7 +96,14 @@ pub fn write_to(command: GeneralCommand, body: &mut [u8]) -> Written
     ensures { λ r. ⌜ Writes (stopInOrder generalRows (length (now (body .entry))) (generalSays command)) (writeBody generalRows (generalSays command)) r (now (body .entry)) (now (body .exit)) ⌝ }
 {
     match command {
-        GeneralCommand::SpeedProposal { port_id, proposed_baudrate } => write_proposal(port_id, proposed_baudrate, body),
-        GeneralCommand::SpeedProposalResponse { port_id, accepted } => write_response(port_id, accepted, body),
+        GeneralCommand::SpeedProposal {
+            port_id,
+            proposed_baudrate,
+        } => write_proposal(port_id, proposed_baudrate, body),
+        GeneralCommand::SpeedProposalResponse { port_id, accepted } => write_response(
+            port_id,
+            accepted,
+            body,
+        ),
     }
 }

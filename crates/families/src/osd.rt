@@ -6,8 +6,8 @@ ghost use Rattle.codec.specs.Writing.{writeBody, stopInOrder};
 ghost use Rattle.codec.specs.Told.{Writes};
 ghost use Rattle.families.specs.Sheets.{osdRows};
 ghost use Rattle.families.specs.Osd.{osdSays, toldOsd};
-
-use codec::reader::{NumberRead, Width};
+use codec::reader::NumberRead;
+use codec::reader::Width;
 use codec::refusal::Refusal;
 use codec::writer::Written;
 

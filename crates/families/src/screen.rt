@@ -5,10 +5,10 @@ ghost use Rattle.codec.specs.Writing.{stopRoom};
 ghost use Rattle.codec.specs.Told.{Writes};
 ghost use Rattle.families.specs.Fields.{construct, PopupIs, inspect, FieldsIs, madePopup};
 ghost use Rattle.families.specs.Screen.{readScreen, ScreenIs, screenBody};
-
-use codec::refusal::{Outcome, Refusal};
-use codec::writer::Written;
 use crate::text::CommandString;
+use codec::refusal::Outcome;
+use codec::refusal::Refusal;
+use codec::writer::Written;
 
 // The Rust's Option<ScreenAdditionalData>; the selection's texts and numbers stand beside it in the fields.
 pub enum ScreenAdditionalData {

@@ -4,7 +4,6 @@ ghost use Prim.Native.Nat.{_≤_, _+_};
 ghost use lib.ListN.{length, take, drop};
 ghost use Rattle.codec.specs.Writing.{nonzero};
 ghost use Rattle.families.specs.Text.{zeros, madeBytes, madeText, padded, textOf};
-
 use codec::refusal::Outcome;
 
 pub struct CommandString {

@@ -1,0 +1,113 @@
+-- Any two answers that a public function's contract allows coincide, and so do the bytes that it leaves in a lent slice. `Post` is
+-- the contract as the check reads it from the source, and no copy of it. Assumes nothing.
+use Prim.Native.Nat.{ℕ, _+_, _<_}
+use mathlib.Core.List.{List}
+use mathlib.Core.Path.{_≡_, refl, sym, ap, _∙_}
+use native.Mathlib.Omega.{arith}
+use contract.Lifetimes.{Lfts}
+use borrow.Fn.Kinds.{Dens, resT, endedOf}
+use denote.Triple.Clauses.{AtExit}
+use denote.Ref.{now}
+use lib.ListN.{length, take, drop, length-drop}
+use lib.Seq.{length-take-le}
+use Rattle.codec.specs.Sheet.{Answer, got, refused}
+use Rattle.codec.specs.Told.{toldNumber, toldFlag, toldText, textIn, toldWritten}
+use Rattle.codec.specs.declared.reader.NumberRead.{NumberRead}
+use Rattle.codec.specs.declared.reader.FlagRead.{FlagRead}
+use Rattle.codec.specs.declared.reader.TextRead.{TextRead}
+use Rattle.codec.specs.declared.reader.TextRead.the-variants.{Got, Refused}
+use Rattle.codec.specs.declared.writer.Written.{Written}
+use Rattle.codec.proofs.Writes.{refusalOf, refusal-back, numberTold, number-told, flagTold, flag-told, writtenTold, written-told}
+use Rattle.codec.proofs.refusal.number.Reads as number
+use Rattle.codec.proofs.refusal.number.Kinds as number-kinds
+use Rattle.codec.proofs.reader.read_number.Reads as read-number
+use Rattle.codec.proofs.reader.read_number.Kinds as read-number-kinds
+use Rattle.codec.proofs.reader.read_flag.Reads as read-flag
+use Rattle.codec.proofs.reader.read_flag.Kinds as read-flag-kinds
+use Rattle.codec.proofs.reader.read_text.Reads as read-text
+use Rattle.codec.proofs.reader.read_text.Kinds as read-text-kinds
+use Rattle.codec.proofs.writer.room_for.Reads as room-for
+use Rattle.codec.proofs.writer.room_for.Kinds as room-for-kinds
+use Rattle.codec.proofs.writer.values_first.Reads as values-first
+use Rattle.codec.proofs.writer.values_first.Kinds as values-first-kinds
+use Rattle.codec.proofs.writer.put_number.Reads as put-number
+use Rattle.codec.proofs.writer.put_number.Kinds as put-number-kinds
+use Rattle.codec.proofs.writer.put_bytes.Reads as put-bytes
+use Rattle.codec.proofs.writer.put_bytes.Kinds as put-bytes-kinds
+use Rattle.codec.proofs.writer.write_alone.Reads as write-alone
+use Rattle.codec.proofs.writer.write_alone.Kinds as write-alone-kinds
+use Rattle.codec.proofs.writer.write_with_byte.Reads as write-with-byte
+use Rattle.codec.proofs.writer.write_with_byte.Kinds as write-with-byte-kinds
+
+-- what is told fixes the answer
+number-fixed : (x y : NumberRead) (a : Answer (List ℕ)) → toldNumber x ≡ a → toldNumber y ≡ a → x ≡ y
+number-fixed x y a p q = sym (number-told x) ∙ ap numberTold (p ∙ sym q) ∙ number-told y
+
+flag-fixed : (x y : FlagRead) (a : Answer (List ℕ)) → toldFlag x ≡ a → toldFlag y ≡ a → x ≡ y
+flag-fixed x y a p q = sym (flag-told x) ∙ ap flagTold (p ∙ sym q) ∙ flag-told y
+
+pub written-fixed : (x y : Written) (a : Answer ℕ) → toldWritten x ≡ a → toldWritten y ≡ a → x ≡ y
+written-fixed x y a p q = sym (written-told x) ∙ ap writtenTold (p ∙ sym q) ∙ written-told y
+
+-- the length of a text's bytes is the length that was told, since they are all there
+text-length : (s : List ℕ) (at n : ℕ) → at + n < length s → length (take n (drop at s)) ≡ n
+text-length s at n h = length-take-le n (drop at s) (rw (length-drop at s) (omega arith))
+
+answer-length : Answer (List ℕ) → ℕ
+answer-length (got v) = length v
+answer-length (refused n p) = 0
+
+answer-number : Answer (List ℕ) → ℕ
+answer-number (got v) = 0
+answer-number (refused n p) = n
+
+text-fixed : (s : List ℕ) (at : ℕ) (x y : TextRead) → toldText s at x ≡ toldText s at y → textIn s at x → textIn s at y → x ≡ y
+unfolding answer-length answer-number
+text-fixed s at (Got n next) (Got m after) e p q =
+    let l : n ≡ m = sym (text-length s at n (p .0)) ∙ ap answer-length e ∙ text-length s at m (q .0) in
+    let k : next ≡ after = p .1 ∙ ap (λ (i : ℕ). at + (i + 1)) l ∙ sym (q .1) in
+    rw (l, k)
+text-fixed s at (Got n next) (Refused r) e p q = let z : _≡_ {A = ℕ} 0 1 = cc in absurd (omega arith)
+text-fixed s at (Refused r) (Got n next) e p q = let z : _≡_ {A = ℕ} 0 1 = cc in absurd (omega arith)
+text-fixed s at (Refused r) (Refused r') e p q =
+    ap Refused (sym (refusal-back r) ∙ ap refusalOf (ap answer-number e) ∙ refusal-back r')
+
+pub number-one : (κs : Lfts 0) (a : Dens κs number-kinds.ps) (x y : resT number-kinds.r κs .Denot) (s t : AtExit (endedOf 0 number-kinds.ps number-kinds.r) κs)
+    → number.Post κs a x s → number.Post κs a y t → x ≡ y
+number-one κs a x y s t p q = p ∙ sym q
+
+pub read-number-one : (κs : Lfts 1) (a : Dens κs read-number-kinds.ps) (x y : resT read-number-kinds.r κs .Denot) (s t : AtExit (endedOf 1 read-number-kinds.ps read-number-kinds.r) κs)
+    → read-number.Post κs a x s → read-number.Post κs a y t → x ≡ y
+read-number-one κs a x y s t p q = number-fixed x y _ (p .0) (q .0)
+
+pub read-flag-one : (κs : Lfts 1) (a : Dens κs read-flag-kinds.ps) (x y : resT read-flag-kinds.r κs .Denot) (s t : AtExit (endedOf 1 read-flag-kinds.ps read-flag-kinds.r) κs)
+    → read-flag.Post κs a x s → read-flag.Post κs a y t → x ≡ y
+read-flag-one κs a x y s t p q = flag-fixed x y _ p q
+
+pub read-text-one : (κs : Lfts 1) (a : Dens κs read-text-kinds.ps) (x y : resT read-text-kinds.r κs .Denot) (s t : AtExit (endedOf 1 read-text-kinds.ps read-text-kinds.r) κs)
+    → read-text.Post κs a x s → read-text.Post κs a y t → x ≡ y
+read-text-one κs a x y s t p q = text-fixed (now (a .0)) (a .1 .0) x y (p .0 ∙ sym (q .0)) (p .1) (q .1)
+
+pub room-for-one : (κs : Lfts 0) (a : Dens κs room-for-kinds.ps) (x y : resT room-for-kinds.r κs .Denot) (s t : AtExit (endedOf 0 room-for-kinds.ps room-for-kinds.r) κs)
+    → room-for.Post κs a x s → room-for.Post κs a y t → x ≡ y
+room-for-one κs a x y s t p q = written-fixed x y _ p q
+
+pub values-first-one : (κs : Lfts 0) (a : Dens κs values-first-kinds.ps) (x y : resT values-first-kinds.r κs .Denot) (s t : AtExit (endedOf 0 values-first-kinds.ps values-first-kinds.r) κs)
+    → values-first.Post κs a x s → values-first.Post κs a y t → x ≡ y
+values-first-one κs a x y s t p q = written-fixed x y _ p q
+
+pub put-number-one : (κs : Lfts 1) (a : Dens κs put-number-kinds.ps) (x y : resT put-number-kinds.r κs .Denot) (s t : AtExit (endedOf 1 put-number-kinds.ps put-number-kinds.r) κs)
+    → put-number.Post κs a x s → put-number.Post κs a y t → (x ≡ y) × (now (s .0) ≡ now (t .0))
+put-number-one κs a x y s t p q = (refl, p ∙ sym q)
+
+pub put-bytes-one : (κs : Lfts 2) (a : Dens κs put-bytes-kinds.ps) (x y : resT put-bytes-kinds.r κs .Denot) (s t : AtExit (endedOf 2 put-bytes-kinds.ps put-bytes-kinds.r) κs)
+    → put-bytes.Post κs a x s → put-bytes.Post κs a y t → (x ≡ y) × (now (s .0) ≡ now (t .0))
+put-bytes-one κs a x y s t p q = (refl, p ∙ sym q)
+
+pub write-alone-one : (κs : Lfts 1) (a : Dens κs write-alone-kinds.ps) (x y : resT write-alone-kinds.r κs .Denot) (s t : AtExit (endedOf 1 write-alone-kinds.ps write-alone-kinds.r) κs)
+    → write-alone.Post κs a x s → write-alone.Post κs a y t → (x ≡ y) × (now (s .1 .0) ≡ now (t .1 .0))
+write-alone-one κs a x y s t p q = (written-fixed x y _ (p .0) (q .0), p .1 ∙ sym (q .1))
+
+pub write-with-byte-one : (κs : Lfts 1) (a : Dens κs write-with-byte-kinds.ps) (x y : resT write-with-byte-kinds.r κs .Denot) (s t : AtExit (endedOf 1 write-with-byte-kinds.ps write-with-byte-kinds.r) κs)
+    → write-with-byte.Post κs a x s → write-with-byte.Post κs a y t → (x ≡ y) × (now (s .1 .1 .0) ≡ now (t .1 .1 .0))
+write-with-byte-one κs a x y s t p q = (written-fixed x y _ (p .0) (q .0), p .1 ∙ sym (q .1))
