@@ -10,4 +10,7 @@ pub mod Forth
 pub mod Joins
 pub mod Writes
 pub mod Packed
+pub mod InTurn
+pub mod Unpacked
 pub mod OneAnswer
+pub mod Refused

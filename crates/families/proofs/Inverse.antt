@@ -9,12 +9,19 @@ use Rattle.codec.specs.Pick.{pick}
 use Rattle.codec.specs.Sheet.{Said, said, first}
 use Rattle.families.specs.Fc.{fcSays}
 use Rattle.families.specs.Osd.{osdSays}
+use Rattle.families.specs.Vtx.{vtxSays}
+use Rattle.families.specs.Led.{colorSays, ledSays}
 use Rattle.families.specs.General.{generalSays}
 use Rattle.families.specs.Crossfire.{crossfireSays}
 use Rattle.families.specs.FlowControl.{flowSays}
 use Rattle.families.specs.declared.fc.FcCommand.{FcCommand}
 use Rattle.families.specs.declared.fc.FcCommand.the-variants.{ForceDisarm, ScaleChannel}
 use Rattle.families.specs.declared.osd.OsdCommand.{OsdCommand}
+use Rattle.families.specs.declared.vtx.VtxCommand.{VtxCommand}
+use Rattle.families.specs.declared.vtx.VtxCommand.the-variants.{SetFrequency, EnablePitModeOnPowerUp, PowerUpFromPitMode, SetDynamicPower, SetPower}
+use Rattle.families.specs.declared.led.LedColor.{LedColor}
+use Rattle.families.specs.declared.led.LedCommand.{LedCommand}
+use Rattle.families.specs.declared.led.LedCommand.the-variants.{SetDefault, OverrideColor, OverridePulse, OverrideBlink, OverrideShift}
 use Rattle.families.specs.declared.general.GeneralCommand.{GeneralCommand}
 use Rattle.families.specs.declared.general.GeneralCommand.the-variants.{SpeedProposal, SpeedProposalResponse}
 use Rattle.families.specs.declared.crossfire.CrossfireCommand.{CrossfireCommand}
@@ -40,6 +47,44 @@ osdOf (said sub vs) = record { buttons = itemNumber vs 0 }
 
 pub osd-of : (c : OsdCommand) → osdOf (osdSays c) ≡ c
 osd-of c = refl
+
+-- ---- 0x08 VTX: the pit byte's fields stand from the highest bits down
+abbrev pub pitOf : List ℕ → VtxCommand
+pitOf v = EnablePitModeOnPowerUp (eqb (getD v 2 0) 1) (getD v 1 0) (getD v 0 0)
+
+abbrev pub vtxOf : Said → VtxCommand
+vtxOf (said sub vs) =
+    pick (eqb sub 0x02) (SetFrequency (itemNumber vs 0))
+    (pick (eqb sub 0x04) (pitOf (getD vs 0 []))
+    (pick (eqb sub 0x05) PowerUpFromPitMode
+    (pick (eqb sub 0x06) (SetDynamicPower (itemNumber vs 0)) (SetPower (itemNumber vs 0)))))
+
+pub vtx-of : (c : VtxCommand) → vtxOf (vtxSays c) ≡ c
+vtx-of (SetFrequency f) = refl
+vtx-of (EnablePitModeOnPowerUp true control switch) = refl
+vtx-of (EnablePitModeOnPowerUp false control switch) = refl
+vtx-of PowerUpFromPitMode = refl
+vtx-of (SetDynamicPower p) = refl
+vtx-of (SetPower p) = refl
+
+-- ---- 0x09 LED
+abbrev pub colorOf : List ℕ → LedColor
+colorOf v = record { hue = getD v 0 0; saturation = getD v 1 0; value = getD v 2 0 }
+
+abbrev pub ledOf : Said → LedCommand
+ledOf (said sub vs) =
+    pick (eqb sub 0x01) SetDefault
+    (pick (eqb sub 0x02) (OverrideColor (colorOf (getD vs 0 [])))
+    (pick (eqb sub 0x03) (OverridePulse (itemNumber vs 0) (colorOf (getD vs 1 [])) (colorOf (getD vs 2 [])))
+    (pick (eqb sub 0x04) (OverrideBlink (itemNumber vs 0) (colorOf (getD vs 1 [])) (colorOf (getD vs 2 [])))
+      (OverrideShift (itemNumber vs 0) (colorOf (getD vs 1 []))))))
+
+pub led-of : (c : LedCommand) → ledOf (ledSays c) ≡ c
+led-of SetDefault = refl
+led-of (OverrideColor c) = refl
+led-of (OverridePulse t a b) = refl
+led-of (OverrideBlink t a b) = refl
+led-of (OverrideShift t c) = refl
 
 -- ---- 0x0A General
 abbrev pub generalOf : Said → GeneralCommand

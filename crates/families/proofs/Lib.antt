@@ -1,4 +1,6 @@
 pub mod Ok
+pub mod Pit
+pub mod Colour
 pub mod Stored
 pub mod Inverse
 pub mod RoundTrip

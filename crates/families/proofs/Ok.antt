@@ -8,11 +8,11 @@ use lib.ListN.{length}
 use lib.Dec.{ltb}
 use borrow.Author.Tests.{le-ltb}
 use Rattle.codec.specs.Sheet.{Row, said, byte, word, long, flag}
-use Rattle.codec.specs.Writing.{itemsOf, writeBody, okItems, stopRoom, stopInOrder}
+use Rattle.codec.specs.Writing.{itemsOf, writeBody, okItems, stopRoom, stopInOrder, stopValuesFirst}
 use Rattle.codec.specs.Told.{bit, Writes}
 use Rattle.codec.specs.declared.writer.Written.{Written}
 use Rattle.codec.proofs.Items.{ltb-zero}
-use Rattle.codec.proofs.Writes.{room-writes}
+use Rattle.codec.proofs.Writes.{room-writes, values-writes}
 use Rattle.codec.proofs.Packed.{byte-item}
 
 pub byte-in : (p : ℕ) → p < 256 → okItems (byte ∷ []) ((p ∷ []) ∷ []) ≡ true
@@ -34,3 +34,10 @@ pub with-byte : (rs : List Row) (sub p : ℕ) (s s' : List ℕ) (r : Written) �
     → Writes (stopInOrder rs (length s) (said sub ((p ∷ []) ∷ []))) (writeBody rs (said sub ((p ∷ []) ∷ []))) r s s'
 with-byte rs sub p s s' r e h g =
     room-writes rs sub ((p ∷ []) ∷ []) (sub ∷ p ∷ []) s s' r (rw e (byte-in p h)) (rw (e, byte-item p h)) g
+
+-- the same, of a family that looks at values first
+pub with-byte-first : (rs : List Row) (sub p : ℕ) (s s' : List ℕ) (r : Written) → itemsOf rs sub ≡ byte ∷ [] → p < 256
+    → Writes (stopRoom (length s) 2) (sub ∷ p ∷ []) r s s'
+    → Writes (stopValuesFirst rs (length s) (said sub ((p ∷ []) ∷ []))) (writeBody rs (said sub ((p ∷ []) ∷ []))) r s s'
+with-byte-first rs sub p s s' r e h g =
+    values-writes rs sub ((p ∷ []) ∷ []) (sub ∷ p ∷ []) s s' r (rw e (byte-in p h)) (rw (e, byte-item p h)) g

@@ -10,15 +10,21 @@ use Rattle.codec.proofs.Writes.{refusalOf, refusal-back}
 use Rattle.codec.proofs.OneAnswer.{written-fixed}
 use Rattle.families.specs.Fc.{toldFc}
 use Rattle.families.specs.Osd.{toldOsd}
+use Rattle.families.specs.Vtx.{toldVtx}
+use Rattle.families.specs.Led.{toldLed}
 use Rattle.families.specs.General.{toldGeneral}
 use Rattle.families.specs.Crossfire.{toldCrossfire}
 use Rattle.families.specs.FlowControl.{toldFlow}
-use Rattle.families.proofs.Inverse.{fcOf, fc-of, osdOf, osd-of, generalOf, general-of, crossfireOf, crossfire-of, flowOf, flow-of}
+use Rattle.families.proofs.Inverse.{fcOf, fc-of, osdOf, osd-of, vtxOf, vtx-of, ledOf, led-of, generalOf, general-of, crossfireOf, crossfire-of, flowOf, flow-of}
 use Rattle.families.specs.declared.fc.FcRead.{FcRead}
 use Rattle.families.specs.declared.fc.FcRead.the-variants.{Got as GotFc, Refused as RefusedFc}
 use Rattle.families.specs.declared.osd.OsdRead.{OsdRead}
 use Rattle.families.specs.declared.osd.OsdRead.the-variants.{Got as GotOsd, Refused as RefusedOsd}
+use Rattle.families.specs.declared.vtx.VtxRead.{VtxRead}
+use Rattle.families.specs.declared.led.LedRead.{LedRead}
 use Rattle.families.specs.declared.general.GeneralRead.{GeneralRead}
+use Rattle.families.specs.declared.vtx.VtxRead.the-variants.{Got as GotVtx, Refused as RefusedVtx}
+use Rattle.families.specs.declared.led.LedRead.the-variants.{Got as GotLed, Refused as RefusedLed}
 use Rattle.families.specs.declared.general.GeneralRead.the-variants.{Got as GotGeneral, Refused as RefusedGeneral}
 use Rattle.families.specs.declared.crossfire.CrossfireRead.{CrossfireRead}
 use Rattle.families.specs.declared.crossfire.CrossfireRead.the-variants.{Got as GotCrossfire, Refused as RefusedCrossfire}
@@ -32,9 +38,17 @@ use Rattle.families.proofs.osd.read.Reads as osd-read
 use Rattle.families.proofs.osd.read.Kinds as osd-read-kinds
 use Rattle.families.proofs.osd.write_to.Reads as osd-write-to
 use Rattle.families.proofs.osd.write_to.Kinds as osd-write-to-kinds
+use Rattle.families.proofs.vtx.read.Reads as vtx-read
+use Rattle.families.proofs.led.read.Reads as led-read
 use Rattle.families.proofs.general.read.Reads as general-read
+use Rattle.families.proofs.vtx.read.Kinds as vtx-read-kinds
+use Rattle.families.proofs.led.read.Kinds as led-read-kinds
 use Rattle.families.proofs.general.read.Kinds as general-read-kinds
+use Rattle.families.proofs.vtx.write_to.Reads as vtx-write-to
+use Rattle.families.proofs.led.write_to.Reads as led-write-to
 use Rattle.families.proofs.general.write_to.Reads as general-write-to
+use Rattle.families.proofs.vtx.write_to.Kinds as vtx-write-to-kinds
+use Rattle.families.proofs.led.write_to.Kinds as led-write-to-kinds
 use Rattle.families.proofs.general.write_to.Kinds as general-write-to-kinds
 use Rattle.families.proofs.crossfire.read.Reads as crossfire-read
 use Rattle.families.proofs.crossfire.read.Kinds as crossfire-read-kinds
@@ -78,6 +92,40 @@ osd-read-one κs a x y s t p q = sym (osd-told x) ∙ ap osdTold (p ∙ sym q) �
 pub osd-write-to-one : (κs : Lfts 1) (a : Dens κs osd-write-to-kinds.ps) (x y : resT osd-write-to-kinds.r κs .Denot) (s t : AtExit (endedOf 1 osd-write-to-kinds.ps osd-write-to-kinds.r) κs)
     → osd-write-to.Post κs a x s → osd-write-to.Post κs a y t → (x ≡ y) × (now (s .1 .0) ≡ now (t .1 .0))
 osd-write-to-one κs a x y s t p q = (written-fixed x y _ (p .0) (q .0), p .1 ∙ sym (q .1))
+
+-- ---- 0x08 VTX
+abbrev pub vtxTold : Answer Said → VtxRead
+vtxTold (got b) = GotVtx (vtxOf b)
+vtxTold (refused n p) = RefusedVtx (refusalOf n)
+
+pub vtx-told : (r : VtxRead) → vtxTold (toldVtx r) ≡ r
+vtx-told (GotVtx c) = ap GotVtx (vtx-of c)
+vtx-told (RefusedVtx r) = ap RefusedVtx (refusal-back r)
+
+pub vtx-read-one : (κs : Lfts 1) (a : Dens κs vtx-read-kinds.ps) (x y : resT vtx-read-kinds.r κs .Denot) (s t : AtExit (endedOf 1 vtx-read-kinds.ps vtx-read-kinds.r) κs)
+    → vtx-read.Post κs a x s → vtx-read.Post κs a y t → x ≡ y
+vtx-read-one κs a x y s t p q = sym (vtx-told x) ∙ ap vtxTold (p ∙ sym q) ∙ vtx-told y
+
+pub vtx-write-to-one : (κs : Lfts 1) (a : Dens κs vtx-write-to-kinds.ps) (x y : resT vtx-write-to-kinds.r κs .Denot) (s t : AtExit (endedOf 1 vtx-write-to-kinds.ps vtx-write-to-kinds.r) κs)
+    → vtx-write-to.Post κs a x s → vtx-write-to.Post κs a y t → (x ≡ y) × (now (s .1 .0) ≡ now (t .1 .0))
+vtx-write-to-one κs a x y s t p q = (written-fixed x y _ (p .0) (q .0), p .1 ∙ sym (q .1))
+
+-- ---- 0x09 LED
+abbrev pub ledTold : Answer Said → LedRead
+ledTold (got b) = GotLed (ledOf b)
+ledTold (refused n p) = RefusedLed (refusalOf n)
+
+pub led-told : (r : LedRead) → ledTold (toldLed r) ≡ r
+led-told (GotLed c) = ap GotLed (led-of c)
+led-told (RefusedLed r) = ap RefusedLed (refusal-back r)
+
+pub led-read-one : (κs : Lfts 1) (a : Dens κs led-read-kinds.ps) (x y : resT led-read-kinds.r κs .Denot) (s t : AtExit (endedOf 1 led-read-kinds.ps led-read-kinds.r) κs)
+    → led-read.Post κs a x s → led-read.Post κs a y t → x ≡ y
+led-read-one κs a x y s t p q = sym (led-told x) ∙ ap ledTold (p ∙ sym q) ∙ led-told y
+
+pub led-write-to-one : (κs : Lfts 1) (a : Dens κs led-write-to-kinds.ps) (x y : resT led-write-to-kinds.r κs .Denot) (s t : AtExit (endedOf 1 led-write-to-kinds.ps led-write-to-kinds.r) κs)
+    → led-write-to.Post κs a x s → led-write-to.Post κs a y t → (x ≡ y) × (now (s .1 .0) ≡ now (t .1 .0))
+led-write-to-one κs a x y s t p q = (written-fixed x y _ (p .0) (q .0), p .1 ∙ sym (q .1))
 
 -- ---- 0x0A General
 abbrev pub generalTold : Answer Said → GeneralRead

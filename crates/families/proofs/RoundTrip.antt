@@ -11,12 +11,18 @@ use Rattle.codec.proofs.Stops.{back-in-order, back-values-first}
 use Rattle.families.specs.Sheets.{fcRows, osdRows, vtxRows, ledRows, generalRows, crossfireRows, flowRows, screenRows}
 use Rattle.families.specs.Fc.{fcSays}
 use Rattle.families.specs.Osd.{osdSays}
+use Rattle.families.specs.Vtx.{vtxSays}
+use Rattle.families.specs.Led.{ledSays}
 use Rattle.families.specs.General.{generalSays}
 use Rattle.families.specs.Crossfire.{crossfireSays}
 use Rattle.families.specs.FlowControl.{flowSays}
 use Rattle.families.specs.declared.fc.FcCommand.{FcCommand}
 use Rattle.families.specs.declared.fc.FcCommand.the-variants.{ForceDisarm, ScaleChannel}
 use Rattle.families.specs.declared.osd.OsdCommand.{OsdCommand}
+use Rattle.families.specs.declared.vtx.VtxCommand.{VtxCommand}
+use Rattle.families.specs.declared.vtx.VtxCommand.the-variants.{SetFrequency, EnablePitModeOnPowerUp, PowerUpFromPitMode, SetDynamicPower, SetPower}
+use Rattle.families.specs.declared.led.LedCommand.{LedCommand}
+use Rattle.families.specs.declared.led.LedCommand.the-variants.{SetDefault, OverrideColor, OverridePulse, OverrideBlink, OverrideShift}
 use Rattle.families.specs.declared.general.GeneralCommand.{GeneralCommand}
 use Rattle.families.specs.declared.general.GeneralCommand.the-variants.{SpeedProposal, SpeedProposalResponse}
 use Rattle.families.specs.declared.crossfire.CrossfireCommand.{CrossfireCommand}
@@ -36,6 +42,20 @@ fc-known ScaleChannel = refl
 
 pub osd-known : (c : OsdCommand) → known osdRows (osdSays c) ≡ true
 osd-known c = refl
+
+pub vtx-known : (c : VtxCommand) → known vtxRows (vtxSays c) ≡ true
+vtx-known (SetFrequency f) = refl
+vtx-known (EnablePitModeOnPowerUp mode control switch) = refl
+vtx-known PowerUpFromPitMode = refl
+vtx-known (SetDynamicPower p) = refl
+vtx-known (SetPower p) = refl
+
+pub led-known : (c : LedCommand) → known ledRows (ledSays c) ≡ true
+led-known SetDefault = refl
+led-known (OverrideColor c) = refl
+led-known (OverridePulse t a b) = refl
+led-known (OverrideBlink t a b) = refl
+led-known (OverrideShift t c) = refl
 
 pub general-known : (c : GeneralCommand) → known generalRows (generalSays c) ≡ true
 general-known (SpeedProposal port baud) = refl
@@ -75,6 +95,12 @@ fc-back = in-order fcRows fcSays refl fc-known
 
 pub osd-back : Back osdRows stopInOrder osdSays
 osd-back = in-order osdRows osdSays refl osd-known
+
+pub vtx-back : Back vtxRows stopValuesFirst vtxSays
+vtx-back = values-first vtxRows vtxSays refl vtx-known
+
+pub led-back : Back ledRows stopInOrder ledSays
+led-back = in-order ledRows ledSays refl led-known
 
 pub general-back : Back generalRows stopInOrder generalSays
 general-back = in-order generalRows generalSays refl general-known

@@ -1,6 +1,8 @@
 pub mod Sheets
 pub mod Fc
 pub mod Osd
+pub mod Vtx
+pub mod Led
 pub mod General
 pub mod Crossfire
 pub mod FlowControl

@@ -4,6 +4,8 @@ pub mod crossfire;
 pub mod fc;
 pub mod flow_control;
 pub mod general;
+pub mod led;
 pub mod osd;
 pub mod screen;
 pub mod text;
+pub mod vtx;

@@ -1,0 +1,82 @@
+// Each family's body read and written again: what the benchmark counts and the comparison runs. No part of the product.
+ghost use mathlib.Core.Path.{_≡_};
+ghost use lib.ListN.{length};
+ghost use Rattle.codec.specs.Reading.{readBody};
+ghost use Rattle.codec.specs.Writing.{writeBody, stopInOrder, stopValuesFirst};
+ghost use Rattle.codec.specs.Refusals.{refusalNumber};
+ghost use Rattle.codec.specs.Told.{toldWritten};
+ghost use Rattle.families.specs.Sheets.{fcRows, osdRows, generalRows, crossfireRows, flowRows};
+ghost use Rattle.bodies.specs.Again.{answerWord, Again};
+
+use codec::refusal::Refusal;
+use codec::writer::Written;
+use families::fc::FcRead;
+use families::osd::OsdRead;
+use families::general::GeneralRead;
+use families::crossfire::CrossfireRead;
+use families::flow_control::FlowControlRead;
+
+fn refused(r: Refusal) -> u32
+    ensures { λ n. ⌜ n ≡ refusalNumber r ⌝ }
+{
+    codec::refusal::number(r) as u32
+}
+
+fn word(w: Written) -> u32
+    ensures { λ n. ⌜ n ≡ answerWord (toldWritten w) ⌝ }
+{
+    match w {
+        Written::Count(n) => (n % 256) as u32 * 256,
+        Written::Refused(r) => refused(r),
+    }
+}
+
+#[no_mangle]
+pub extern "C" fn body_fc(body: &[u8], out: &mut [u8]) -> u32
+    ensures { λ r. ⌜ Again (readBody fcRows (now (body .entry))) (stopInOrder fcRows (length (now (out .entry)))) (writeBody fcRows) r (now (out .entry)) (now (out .exit)) ⌝ }
+{
+    match families::fc::read(body) {
+        FcRead::Got(c) => word(families::fc::write_to(c, out)),
+        FcRead::Refused(r) => refused(r),
+    }
+}
+
+#[no_mangle]
+pub extern "C" fn body_osd(body: &[u8], out: &mut [u8]) -> u32
+    ensures { λ r. ⌜ Again (readBody osdRows (now (body .entry))) (stopInOrder osdRows (length (now (out .entry)))) (writeBody osdRows) r (now (out .entry)) (now (out .exit)) ⌝ }
+{
+    match families::osd::read(body) {
+        OsdRead::Got(c) => word(families::osd::write_to(c, out)),
+        OsdRead::Refused(r) => refused(r),
+    }
+}
+
+#[no_mangle]
+pub extern "C" fn body_general(body: &[u8], out: &mut [u8]) -> u32
+    ensures { λ r. ⌜ Again (readBody generalRows (now (body .entry))) (stopInOrder generalRows (length (now (out .entry)))) (writeBody generalRows) r (now (out .entry)) (now (out .exit)) ⌝ }
+{
+    match families::general::read(body) {
+        GeneralRead::Got(c) => word(families::general::write_to(c, out)),
+        GeneralRead::Refused(r) => refused(r),
+    }
+}
+
+#[no_mangle]
+pub extern "C" fn body_crossfire(body: &[u8], out: &mut [u8]) -> u32
+    ensures { λ r. ⌜ Again (readBody crossfireRows (now (body .entry))) (stopInOrder crossfireRows (length (now (out .entry)))) (writeBody crossfireRows) r (now (out .entry)) (now (out .exit)) ⌝ }
+{
+    match families::crossfire::read(body) {
+        CrossfireRead::Got(c) => word(families::crossfire::write_to(c, out)),
+        CrossfireRead::Refused(r) => refused(r),
+    }
+}
+
+#[no_mangle]
+pub extern "C" fn body_flow_control(body: &[u8], out: &mut [u8]) -> u32
+    ensures { λ r. ⌜ Again (readBody flowRows (now (body .entry))) (stopInOrder flowRows (length (now (out .entry)))) (writeBody flowRows) r (now (out .entry)) (now (out .exit)) ⌝ }
+{
+    match families::flow_control::read(body) {
+        FlowControlRead::Got(c) => word(families::flow_control::write_to(c, out)),
+        FlowControlRead::Refused(r) => refused(r),
+    }
+}
