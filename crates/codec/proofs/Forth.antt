@@ -45,7 +45,7 @@ nonzero-by : (b : ℕ) (s : List ℕ) (t : Bool) → eqb b 0 ≡ t → nonzero (
 nonzero-by b s true e h = refl
 nonzero-by b s false e h = rw e h
 
-before-nonzero : (s : List ℕ) → nonzero (before0 s) ≡ true
+pub before-nonzero : (s : List ℕ) → nonzero (before0 s) ≡ true
 before-nonzero [] = refl
 before-nonzero (b ∷ s) = nonzero-by b s (eqb b 0) refl (before-nonzero s)
 

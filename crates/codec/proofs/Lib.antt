@@ -14,3 +14,5 @@ pub mod InTurn
 pub mod Unpacked
 pub mod OneAnswer
 pub mod Refused
+pub mod TextRange
+pub mod Outcomes

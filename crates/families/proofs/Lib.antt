@@ -6,3 +6,7 @@ pub mod Inverse
 pub mod RoundTrip
 pub mod OneAnswer
 pub mod Examples
+pub mod TextLaws
+pub mod Acks
+pub mod OneAnswerText
+pub mod ExamplesText

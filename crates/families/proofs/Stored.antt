@@ -8,10 +8,10 @@ use native.Mathlib.Numerals.{add-one}
 use native.Mathlib.Nat.{add-sub-cancel-left, zero-sub, sub-zero, suc-sub-suc}
 use lib.ListN.{length, getD, drop, take, replicate, drop-of-length-le, length-drop}
 use lib.Seq.{drop-cons, take-all, take-length, length-take-le}
-use borrow.Author.Tests.{eq-eqb, ne-eqb}
+use borrow.Author.Tests.{eq-eqb, ne-eqb, le-leb}
 use Rattle.codec.specs.Pick.{pick}
 use Rattle.codec.specs.Writing.{nonzero}
-use Rattle.families.specs.Text.{zeros, padded, textOf}
+use Rattle.families.specs.Text.{zeros, madeBytes, padded, textOf}
 use Rattle.families.specs.declared.text.CommandString.{CommandString}
 
 pub nonzero-stop : (s : List ℕ) (i : ℕ) → i < length s → getD s i 0 ≡ 0 → nonzero (drop i s) ≡ false
@@ -51,3 +51,11 @@ text-is s b at n h e =
     let k : n ≤ length (drop at s) = rw length-drop (omega arith) in
     let l : length (take n (drop at s)) ≡ n = length-take-le n (drop at s) k in
     rw (e, l)
+
+-- fewer bytes than the length says: they are all there is to judge
+pub made-short : (most n : ℕ) (b : List ℕ) → n ≤ most → length b < n → madeBytes most n b ≡ nonzero b
+made-short most n b h l = rw (le-leb n most h, take-all n b (omega arith), drop-of-length-le b {i = n} (omega arith)) (by (nonzero b))
+  where
+    by : (t : Bool) → pick t true false ≡ t
+    by true = refl
+    by false = refl

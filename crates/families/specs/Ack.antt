@@ -1,6 +1,6 @@
 -- 0xFF ACK, no sub-command byte of its own: command id(1), sub id(1), action 0 or 1, information up to 52 bytes, 00. Assumes nothing.
 use Prim.Native.Nat.{ℕ}
-use mathlib.Core.Bool.{Bool, true, false}
+use mathlib.Core.Bool.{Bool}
 use mathlib.Core.Path.{_≡_}
 use mathlib.Core.List.{List, [], _∷_}
 use lib.ListN.{length, getD}
@@ -27,6 +27,9 @@ actionOk vs = okItem flag (getD vs 2 [])
 -- "ACK: below 3 body bytes 1, no 00 from byte 3 on 1, then action above 1: 2."
 abbrev pub readAck : List ℕ → Answer (List (List ℕ))
 readAck s = andThen (readItems ackLoose s 0) (λ vs. pick (actionOk vs) (got vs) (refused 2 0))
+
+abbrev pub ackWith : ℕ → ℕ → ℕ → CommandAck
+ackWith command sub action = record { «command_id» = command; «sub_command_id» = sub; action = action }
 
 -- what an ACK with its information says
 abbrev pub ackSays : CommandAck → List ℕ → List (List ℕ)

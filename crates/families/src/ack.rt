@@ -1,12 +1,20 @@
 // 0xFF ACK.
 ghost use mathlib.Core.Path.{_≡_};
-ghost use lib.ListN.{length, take};
+ghost use Prim.Native.Nat.{_≤_, _+_};
+ghost use lib.ListN.{length, take, drop};
+ghost use lib.Seq.{sets};
+ghost use Rattle.codec.specs.Refusals.{refusalNumber};
+ghost use Rattle.codec.specs.Sheet.{got, refused};
 ghost use Rattle.codec.specs.Writing.{writeItems};
 ghost use Rattle.codec.specs.Told.{Writes};
-ghost use Rattle.families.specs.Ack.{ackItems, readAck, ackSays, stopAck, newAck, AckIs, madeInformation};
+ghost use Rattle.families.specs.Ack.{ackItems, readAck, ackWith, ackSays, stopAck, newAck, AckIs, madeInformation};
+use codec::reader::TextRead;
 use codec::refusal::Outcome;
 use codec::refusal::Refusal;
 use codec::writer::Written;
+
+// "information up to 52 bytes"
+const MOST: usize = 52;
 
 // The information stands beside it.
 pub struct CommandAck {
@@ -20,4 +28,131 @@ pub struct AckAnswer {
     pub ack: CommandAck,
     pub len: usize,
     pub bytes: [u8; 55],
+}
+
+// "With each number come the same blank record"
+fn refused_with(why: Refusal) -> AckAnswer
+    ensures { λ r. ⌜ AckIs (refused (refusalNumber why) 0) r ⌝ }
+{
+    AckAnswer {
+        outcome: Outcome::Refused(why),
+        ack: CommandAck {
+            command_id: 0,
+            sub_command_id: 0,
+            action: 0,
+        },
+        len: 0,
+        bytes: [0u8; 55],
+    }
+}
+
+// The ACK, with the n bytes from a place on as its information.
+fn accepted(
+    command_id: u8,
+    sub_command_id: u8,
+    action: u8,
+    s: &[u8],
+    at: usize,
+    n: usize,
+) -> AckAnswer
+    requires { ⌜ (at + n ≤ length (now s)) × (n ≤ 52) ⌝ }
+    ensures { λ r. ⌜ AckIs (got (ackSays (ackWith «command_id» «sub_command_id» action) (take n (drop at (now (s .entry)))))) r ⌝ }
+{
+    let bytes = crate::text::stored(s, at, n);
+    AckAnswer {
+        outcome: Outcome::Accepted,
+        ack: CommandAck {
+            command_id: command_id,
+            sub_command_id: sub_command_id,
+            action: action,
+        },
+        len: n,
+        bytes: bytes,
+    }
+}
+
+impl CommandAck {
+    // "over 52 bytes 1, then action above 1 or a zero byte 2"
+    pub fn new(command_id: u8, sub_command_id: u8, action: u8, information: &[u8]) -> AckAnswer
+        ensures { λ r. ⌜ AckIs (newAck (ackWith «command_id» «sub_command_id» action) (now (information .entry))) r ⌝ }
+    {
+        if MOST < information.len() {
+            return refused_with(Refusal::InvalidPayloadLength);
+        }
+        if 1 < action {
+            return refused_with(Refusal::InvalidPayload);
+        }
+        if crate::text::all_nonzero(information) {
+            return accepted(
+                command_id,
+                sub_command_id,
+                action,
+                information,
+                0,
+                information.len(),
+            );
+        }
+        refused_with(Refusal::InvalidPayload)
+    }
+}
+
+// "below 3 body bytes 1, no 00 from byte 3 on 1, then action above 1: 2"
+pub fn read(body: &[u8]) -> AckAnswer
+    ensures { λ r. ⌜ AckIs (readAck (now (body .entry))) r ⌝ }
+{
+    if body.len() < 3 {
+        return refused_with(Refusal::InvalidPayloadLength);
+    }
+    match codec::reader::read_text(body, 3, MOST) {
+        TextRead::Got { len, next } => {
+            if 1 < body[2] {
+                return refused_with(Refusal::InvalidPayload);
+            }
+            accepted(body[0], body[1], body[2], body, 3, len)
+        }
+        TextRead::Refused(r) => refused_with(r),
+    }
+}
+
+// The ACK and its information, into a body that has room for them.
+fn put(ack: CommandAck, t: &[u8], body: &mut [u8])
+    requires { ⌜ length (now t) + 4 ≤ length (now body) ⌝ }
+    ensures { λ r. ⌜ now (body .exit) ≡ sets (now (body .entry)) 0 (writeItems ackItems (ackSays ack (now (t .entry)))) ⌝ }
+{
+    body[0] = ack.command_id;
+    body[1] = ack.sub_command_id;
+    body[2] = ack.action;
+    codec::writer::put_bytes(body, 3, t);
+    body[3 + t.len()] = 0;
+}
+
+// The same, "values first (2), then .. room (3)".
+fn write_all(ack: CommandAck, t: &[u8], body: &mut [u8]) -> Written
+    ensures { λ r. ⌜ Writes (stopAck (length (now (body .entry))) (ackSays ack (now (t .entry)))) (writeItems ackItems (ackSays ack (now (t .entry)))) r (now (body .entry)) (now (body .exit)) ⌝ }
+{
+    match codec::writer::values_first(ack.action <= 1, body.len(), t.len() + 4) {
+        Written::Count(n) => {
+            put(ack, t, body);
+            Written::Count(n)
+        }
+        Written::Refused(r) => Written::Refused(r),
+    }
+}
+
+// The information is the first len of the bytes; where there are fewer, all of them.
+pub fn write_to(ack: CommandAck, bytes: &[u8], len: usize, body: &mut [u8]) -> Written
+    ensures { λ r. ⌜ Writes (stopAck (length (now (body .entry))) (ackSays ack (take len (now (bytes .entry))))) (writeItems ackItems (ackSays ack (take len (now (bytes .entry))))) r (now (body .entry)) (now (body .exit)) ⌝ }
+{
+    if len < bytes.len() {
+        write_all(ack, &bytes[..len], body)
+    } else {
+        write_all(ack, bytes, body)
+    }
+}
+
+// Stored information; "An ACK's action is outside this and is judged on writing."
+pub fn made(bytes: &[u8], len: usize) -> bool
+    ensures { λ r. ⌜ r ≡ madeInformation len (now (bytes .entry)) ⌝ }
+{
+    crate::text::made_bytes(bytes, len, MOST)
 }

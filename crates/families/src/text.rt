@@ -3,8 +3,14 @@ ghost use mathlib.Core.Path.{_≡_};
 ghost use Prim.Native.Nat.{_≤_, _+_};
 ghost use lib.ListN.{length, take, drop};
 ghost use Rattle.codec.specs.Writing.{nonzero};
-ghost use Rattle.families.specs.Text.{zeros, madeBytes, madeText, padded, textOf};
+ghost use Rattle.codec.specs.Refusals.{refusalNumber};
+ghost use Rattle.codec.specs.Sheet.{refused};
+ghost use Rattle.families.specs.Text.{zeros, madeBytes, madeText, padded, textOf, newText, TextIs};
 use codec::refusal::Outcome;
+use codec::refusal::Refusal;
+
+// "A text is up to 51 nonzero bytes"
+const MOST: usize = 51;
 
 pub struct CommandString {
     pub len: usize,
@@ -44,11 +50,13 @@ pub(crate) fn all_zero(s: &[u8]) -> bool
 
 // Stored bytes: at most so many, nonzero, and zeros after them.
 pub(crate) fn made_bytes(s: &[u8], n: usize, most: usize) -> bool
-    requires { ⌜ most ≤ length (now s) ⌝ }
     ensures { λ r. ⌜ r ≡ madeBytes most n (now (s .entry)) ⌝ }
 {
     if most < n {
         return false;
+    }
+    if s.len() < n {
+        return all_nonzero(s);
     }
     if all_nonzero(&s[..n]) {
         return all_zero(&s[n..]);
@@ -78,11 +86,41 @@ pub(crate) fn text_at(s: &[u8], at: usize, n: usize) -> CommandString
     CommandString { len: n, bytes: out }
 }
 
+// "With each number come the same blank record"
+fn refused_with(why: Refusal) -> TextAnswer
+    ensures { λ r. ⌜ TextIs (refused (refusalNumber why) 0) r ⌝ }
+{
+    TextAnswer {
+        outcome: Outcome::Refused(why),
+        text: CommandString {
+            len: 0,
+            bytes: [0u8; 51],
+        },
+    }
+}
+
 impl CommandString {
+    // "a zero byte 2, then over 51 bytes 1"
+    pub fn new(bytes: &[u8]) -> TextAnswer
+        ensures { λ r. ⌜ TextIs (newText (now (bytes .entry))) r ⌝ }
+    {
+        if all_nonzero(bytes) {
+            if MOST < bytes.len() {
+                return refused_with(Refusal::InvalidPayloadLength);
+            }
+            let text = text_at(bytes, 0, bytes.len());
+            return TextAnswer {
+                outcome: Outcome::Accepted,
+                text: text,
+            };
+        }
+        refused_with(Refusal::InvalidPayload)
+    }
+
     pub fn made(self) -> bool
         ensures { λ r. ⌜ r ≡ madeText self ⌝ }
     {
         let b = self.bytes;
-        made_bytes(&b, self.len, 51)
+        made_bytes(&b, self.len, MOST)
     }
 }

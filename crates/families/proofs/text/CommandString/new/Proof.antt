@@ -1,0 +1,40 @@
+-- The text constructor: a zero byte, too long, or the text of the bytes. Assumes nothing.
+use mathlib.Core.Path.{sym, _∙_}
+use denote.Ref.{now}
+use Rattle.families.proofs.TextLaws.{new-long, new-text, new-zero}
+use borrow.Author.Needs.{needs}
+use Rattle.families.proofs.text.CommandString.new.Statement.{statement}
+use Rattle.families.proofs.text.CommandString.new.Tie as tie
+
+all-nonzero-requires : tie.Need-all-nonzero-requires
+all-nonzero-requires c κs = search needs
+
+refused-with-requires : tie.Need-refused-with-requires
+refused-with-requires c κs = search needs
+
+returns : tie.Need-returns
+returns c = rw (new-long (now (c .before .before .before .before .before .args .bytes)) (sym (c .before .before .before .all-nonzero .ensures) ∙ c .before .before .if1 .taken) (c .before .if2 .taken)) (c .refused-with .ensures)
+
+text-at-requires : tie.Need-text-at-requires
+text-at-requires c κs = search needs
+
+returns-2 : tie.Need-returns-2
+returns-2 c = new-text (now (c .before .before .before .before .before .args .bytes)) (c .text-at .result) (sym (c .before .before .before .all-nonzero .ensures) ∙ c .before .before .if1 .taken) (c .before .if2 .left) (c .text-at .ensures)
+
+refused-with-requires-2 : tie.Need-refused-with-requires-2
+refused-with-requires-2 c κs = search needs
+
+returns-3 : tie.Need-returns-3
+returns-3 c = rw (new-zero (now (c .before .before .before .before .args .bytes)) (sym (c .before .before .all-nonzero .ensures) ∙ c .before .if1 .left)) (c .refused-with2 .ensures)
+
+pub new-spec : {M : Type 1} → statement M
+new-spec =
+    tie.close
+    (tie.spec
+    all-nonzero-requires
+    refused-with-requires
+    returns
+    text-at-requires
+    returns-2
+    refused-with-requires-2
+    returns-3)
