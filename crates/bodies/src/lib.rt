@@ -2,19 +2,22 @@
 ghost use mathlib.Core.Path.{_≡_};
 ghost use lib.ListN.{length};
 ghost use Rattle.codec.specs.Reading.{readBody};
-ghost use Rattle.codec.specs.Writing.{writeBody, stopInOrder, stopValuesFirst};
+ghost use Rattle.codec.specs.Writing.{writeItems, writeBody, stopInOrder, stopValuesFirst};
 ghost use Rattle.codec.specs.Refusals.{refusalNumber};
 ghost use Rattle.codec.specs.Told.{toldWritten};
-ghost use Rattle.families.specs.Sheets.{fcRows, osdRows, generalRows, crossfireRows, flowRows};
+ghost use Rattle.families.specs.Sheets.{fcRows, osdRows, vtxRows, ledRows, generalRows, crossfireRows, flowRows};
+ghost use Rattle.families.specs.Ack.{ackItems, readAck, stopAck};
 ghost use Rattle.bodies.specs.Again.{answerWord, Again};
-
+use codec::refusal::Outcome;
 use codec::refusal::Refusal;
 use codec::writer::Written;
-use families::fc::FcRead;
-use families::osd::OsdRead;
-use families::general::GeneralRead;
 use families::crossfire::CrossfireRead;
+use families::fc::FcRead;
 use families::flow_control::FlowControlRead;
+use families::general::GeneralRead;
+use families::led::LedRead;
+use families::osd::OsdRead;
+use families::vtx::VtxRead;
 
 fn refused(r: Refusal) -> u32
     ensures { λ n. ⌜ n ≡ refusalNumber r ⌝ }
@@ -78,5 +81,39 @@ pub extern "C" fn body_flow_control(body: &[u8], out: &mut [u8]) -> u32
     match families::flow_control::read(body) {
         FlowControlRead::Got(c) => word(families::flow_control::write_to(c, out)),
         FlowControlRead::Refused(r) => refused(r),
+    }
+}
+
+#[no_mangle]
+pub extern "C" fn body_vtx(body: &[u8], out: &mut [u8]) -> u32
+    ensures { λ r. ⌜ Again (readBody vtxRows (now (body .entry))) (stopValuesFirst vtxRows (length (now (out .entry)))) (writeBody vtxRows) r (now (out .entry)) (now (out .exit)) ⌝ }
+{
+    match families::vtx::read(body) {
+        VtxRead::Got(c) => word(families::vtx::write_to(c, out)),
+        VtxRead::Refused(r) => refused(r),
+    }
+}
+
+#[no_mangle]
+pub extern "C" fn body_led(body: &[u8], out: &mut [u8]) -> u32
+    ensures { λ r. ⌜ Again (readBody ledRows (now (body .entry))) (stopInOrder ledRows (length (now (out .entry)))) (writeBody ledRows) r (now (out .entry)) (now (out .exit)) ⌝ }
+{
+    match families::led::read(body) {
+        LedRead::Got(c) => word(families::led::write_to(c, out)),
+        LedRead::Refused(r) => refused(r),
+    }
+}
+
+#[no_mangle]
+pub extern "C" fn body_ack(body: &[u8], out: &mut [u8]) -> u32
+    ensures { λ r. ⌜ Again (readAck (now (body .entry))) (stopAck (length (now (out .entry)))) (writeItems ackItems) r (now (out .entry)) (now (out .exit)) ⌝ }
+{
+    let read = families::ack::read(body);
+    let outcome = read.outcome;
+    let ack = read.ack;
+    let bytes = read.bytes;
+    match outcome {
+        Outcome::Accepted => word(families::ack::write_to(ack, &bytes, read.len, out)),
+        Outcome::Refused(r) => refused(r),
     }
 }

@@ -10,13 +10,12 @@ use lib.Dec.{ltb}
 use borrow.Author.Tests.{le-ltb, lt-ltb, ltb-false}
 use Rattle.codec.specs.Pick.{pick}
 use Rattle.codec.specs.Digits.{bytesOf}
-use Rattle.codec.specs.Sheet.{Item, Row, said, word, Answer, got, refused}
-use Rattle.codec.specs.Writing.{okItem, okItems, itemsOf, writeItems, writeBody, counted, stopRoom, stopEach, stopInOrder, stopValuesFirst}
+use Rattle.codec.specs.Sheet.{Item, Row, said, word, got, refused}
+use Rattle.codec.specs.Writing.{okItem, itemsOf, writeItems, writeBody, counted, stopRoom, stopEach, stopInOrder, stopValuesFirst}
 use Rattle.codec.specs.Refusals.{refusalNumber}
 use Rattle.codec.specs.Told.{Writes}
 use Rattle.codec.specs.declared.refusal.Refusal.{Refusal}
 use Rattle.codec.specs.declared.refusal.Refusal.the-variants.{BufferOverflow}
-use Rattle.codec.specs.declared.writer.Written.{Written}
 use Rattle.codec.specs.declared.writer.Written.the-variants.{Count, Refused as RefusedWrite}
 use Rattle.codec.proofs.Items.{alone, ltb-zero}
 use Rattle.codec.proofs.Stops.{room-again}

@@ -38,14 +38,14 @@ item-some (packed w fs) s =
 item-some (text least most) s =
     some-pick (ltb (length (before0 s)) (length s)) _ _
     (some-pick (ltb most (length (before0 s))) _ _ (some-refused 1 0 (omega arith))
-      (some-pick (shorter least (before0 s)) _ _ (some-refused 2 0 (omega arith)) (some-got _)))
+    (some-pick (shorter least (before0 s)) _ _ (some-refused 2 0 (omega arith)) (some-got _)))
     (some-refused 1 0 (omega arith))
 
 pub items-some : (is : List Item) (s : List ℕ) (at : ℕ) → Some (readItems is s at)
 items-some [] s at = some-got []
 items-some (i ∷ is) s at =
     some-then (readItem i (drop at s)) _ (item-some i (drop at s)) (λ v.
-      some-then (readItems is s (at + sizeOf i v)) _ (items-some is s (at + sizeOf i v)) (λ vs. some-got (v ∷ vs)))
+    some-then (readItems is s (at + sizeOf i v)) _ (items-some is s (at + sizeOf i v)) (λ vs. some-got (v ∷ vs)))
 
 -- number 0 is a value
 pub zero-got : {A : Type 0} (a : Answer A) → Some a → numberIn a ≡ 0 → (x : A) × (a ≡ got x)

@@ -1,9 +1,9 @@
 -- A packed item from what `read_number` tells of its bytes. Assumes nothing.
 use Prim.Native.Nat.{ℕ}
-use mathlib.Core.Bool.{Bool, true, false}
-use mathlib.Core.List.{List, [], _∷_}
-use mathlib.Core.Path.{_≡_, refl, sym, _∙_}
-use Rattle.codec.specs.Sheet.{Field, packed, Answer, got, refused}
+use mathlib.Core.Bool.{true}
+use mathlib.Core.List.{List}
+use mathlib.Core.Path.{_≡_, sym}
+use Rattle.codec.specs.Sheet.{Field, packed, refused}
 use Rattle.codec.specs.Reading.{readItem}
 use Rattle.codec.specs.Sound.{soundItem}
 use Rattle.codec.specs.Refusals.{refusalNumber}

@@ -1,11 +1,11 @@
 -- A colour from the number of its bytes, judged. Assumes nothing.
-use Prim.Native.Nat.{ℕ, _/_, _%_}
-use mathlib.Core.Bool.{Bool, true, false}
+use Prim.Native.Nat.{ℕ}
+use mathlib.Core.Bool.{Bool}
 use mathlib.Core.List.{List, [], _∷_}
 use mathlib.Core.Path.{_≡_, refl, ap, sym, _∙_}
 use Rattle.codec.specs.Pick.{pick}
 use Rattle.codec.specs.Digits.{split}
-use Rattle.codec.specs.Sheet.{field, number, Answer, got, refused}
+use Rattle.codec.specs.Sheet.{field, number, got, refused}
 use Rattle.codec.specs.Reading.{readItem}
 use Rattle.codec.specs.Writing.{okItem}
 use Rattle.codec.specs.Refusals.{refusalNumber}

@@ -77,7 +77,7 @@ ledOf (said sub vs) =
     (pick (eqb sub 0x02) (OverrideColor (colorOf (getD vs 0 [])))
     (pick (eqb sub 0x03) (OverridePulse (itemNumber vs 0) (colorOf (getD vs 1 [])) (colorOf (getD vs 2 [])))
     (pick (eqb sub 0x04) (OverrideBlink (itemNumber vs 0) (colorOf (getD vs 1 [])) (colorOf (getD vs 2 [])))
-      (OverrideShift (itemNumber vs 0) (colorOf (getD vs 1 []))))))
+    (OverrideShift (itemNumber vs 0) (colorOf (getD vs 1 []))))))
 
 pub led-of : (c : LedCommand) → ledOf (ledSays c) ≡ c
 led-of SetDefault = refl

@@ -10,3 +10,9 @@ pub mod TextLaws
 pub mod Acks
 pub mod OneAnswerText
 pub mod ExamplesText
+pub mod PopupLaws
+pub mod Made
+pub mod Judged
+pub mod PutFields
+pub mod OneAnswerPopup
+pub mod ExamplesPopup

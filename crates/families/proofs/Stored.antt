@@ -35,7 +35,7 @@ zeros-end s i h = rw (drop-of-length-le s h)
 pub rest-is : (s : List ℕ) (n : ℕ) → take (length s - n) (drop n s) ≡ drop n s
 rest-is s n = take-all (length s - n) (drop n s) (rw length-drop (omega arith))
 
-drop-zeros : (k m : ℕ) → drop {A = ℕ} k (replicate m 0) ≡ replicate (m - k) 0
+pub drop-zeros : (k m : ℕ) → drop {A = ℕ} k (replicate m 0) ≡ replicate (m - k) 0
 drop-zeros zero m = rw sub-zero
 drop-zeros (suc k) zero = rw zero-sub
 drop-zeros (suc k) (suc m) = rw suc-sub-suc (drop-zeros k m)

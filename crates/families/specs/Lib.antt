@@ -11,3 +11,4 @@ pub mod Ack
 pub mod Popup
 pub mod Fields
 pub mod Screen
+pub mod Sizes

@@ -2,6 +2,7 @@
 pub mod ack;
 pub mod crossfire;
 pub mod fc;
+mod fields;
 pub mod flow_control;
 pub mod general;
 pub mod led;

@@ -48,6 +48,27 @@ pub struct PopupAnswer {
     pub popup: ScreenPopup,
 }
 
+impl ScreenPopup {
+    // Made of its fields; refused, blank.
+    pub fn new(fields: ScreenPopupFields) -> PopupAnswer
+        ensures { λ r. ⌜ PopupIs (construct fields) r ⌝ }
+    {
+        match crate::fields::judge(fields) {
+            Outcome::Accepted => PopupAnswer {
+                outcome: Outcome::Accepted,
+                popup: crate::fields::put(fields),
+            },
+            Outcome::Refused(r) => PopupAnswer {
+                outcome: Outcome::Refused(r),
+                popup: ScreenPopup {
+                    len: 0,
+                    bytes: [0u8; 55],
+                },
+            },
+        }
+    }
+}
+
 // A popup's bytes stand beside the command.
 pub enum ScreenCommand {
     PopupMessageStart,

@@ -36,6 +36,16 @@ const LOWEST_FREQUENCY: u32 = 5000;
 
 const HIGHEST_FREQUENCY: u32 = 6000;
 
+fn enable_pit(mode: bool, control: u8, switch: u8) -> VtxCommand
+    ensures { λ r. ⌜ vtxSays r ≡ said 0x04 ((switch ∷ control ∷ bit mode ∷ []) ∷ []) ⌝ }
+{
+    VtxCommand::EnablePitModeOnPowerUp {
+        pit_mode: mode,
+        pit_mode_control: control,
+        pit_mode_switch: switch,
+    }
+}
+
 // Bit 7 is ignored.
 fn unpacked(byte: u32) -> VtxCommand
     ensures { λ r. ⌜ vtxSays r ≡ said 0x04 (split (4 ∷ 2 ∷ 1 ∷ []) byte ∷ []) ⌝ }
@@ -43,11 +53,7 @@ fn unpacked(byte: u32) -> VtxCommand
     let mode = byte % 2 == 1;
     let control = (byte / 2 % 4) as u8;
     let switch = (byte / 8 % 16) as u8;
-    VtxCommand::EnablePitModeOnPowerUp {
-        pit_mode: mode,
-        pit_mode_control: control,
-        pit_mode_switch: switch,
-    }
+    enable_pit(mode, control, switch)
 }
 
 pub fn read(body: &[u8]) -> VtxRead

@@ -1,5 +1,4 @@
 -- Writing a frequency is writing its row: its range first, then room. Assumes nothing.
-use Prim.Native.Nat.{_≤_}
 use mathlib.Core.Path.{refl}
 use mathlib.Core.List.{_∷_, []}
 use native.Mathlib.Omega.{arith}

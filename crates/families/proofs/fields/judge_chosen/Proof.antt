@@ -1,0 +1,34 @@
+-- A selection judged: its label at its turn, then the room for all. Assumes nothing.
+use borrow.Author.Tests.{lt-ltb, le-ltb, eq-eqb, ne-eqb}
+use borrow.Author.Needs.{needs}
+use Rattle.families.proofs.fields.judge_chosen.Statement.{statement}
+use Rattle.families.proofs.fields.judge_chosen.Tie as tie
+
+returns : tie.Need-returns
+returns c = rw (eq-eqb _ _ (c .before .if1 .taken), lt-ltb _ _ (c .if2 .taken))
+
+returns-2 : tie.Need-returns-2
+returns-2 c = rw (eq-eqb _ _ (c .before .if1 .taken), le-ltb _ _ (c .if2 .left))
+
+add-room : tie.Need-add-room
+add-room c = search needs
+
+add-room-2 : tie.Need-add-room-2
+add-room-2 c = search needs
+
+add-room-3 : tie.Need-add-room-3
+add-room-3 c = search needs
+
+add-room-4 : tie.Need-add-room-4
+add-room-4 c = search needs
+
+room-requires : tie.Need-room-requires
+room-requires c κs = search needs
+
+returns-3 : tie.Need-returns-3
+returns-3 c = rw (ne-eqb _ _ (c .before .if1 .left)) (c .room .ensures)
+
+pub judge-chosen-spec : {M : Type 1} → statement M
+judge-chosen-spec =
+    tie.close
+    (tie.spec returns returns-2 add-room add-room-2 add-room-3 add-room-4 room-requires returns-3)

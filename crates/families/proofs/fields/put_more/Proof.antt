@@ -1,0 +1,58 @@
+-- Additional data of any kind, put at a place. Assumes nothing.
+use mathlib.Core.Path.{refl}
+use native.Mathlib.Omega.{arith}
+use denote.Ref.{now}
+use Rattle.families.specs.declared.screen.ScreenAdditionalData.the-variants.{Absent, Empty, Selection}
+use Rattle.families.proofs.PutFields.{more-is, size-is}
+use borrow.Author.Needs.{needs}
+use Rattle.families.proofs.fields.put_more.Statement.{statement}
+use Rattle.families.proofs.fields.put_more.Tie as tie
+
+enum-told : tie.Need-enum-told
+enum-told c = search needs
+
+enum-told-2 : tie.Need-enum-told-2
+enum-told-2 c = search needs
+
+slice-write-s : tie.Need-slice-write-s
+slice-write-s c = let e = size-is (c .before .before .before .args .f) (c .before .before .before .args .f .«additional_data») Empty (c .enum-told2 .given .1) in omega (arith, e, c .before .before .before .pre .1)
+
+add-result : tie.Need-add-result
+add-result c = search needs
+
+enum-told-3 : tie.Need-enum-told-3
+enum-told-3 c = search needs
+
+put-chosen-requires : tie.Need-put-chosen-requires
+put-chosen-requires c κs = let e = size-is (c .before .before .before .before .args .f) (c .before .before .before .before .args .f .«additional_data») Selection (c .before .enum-told3 .given .1) in (c .before .before .before .before .pre .0 (c .before .enum-told3 .given .1), omega (arith, e, c .before .before .before .before .pre .1))
+
+returns : tie.Need-returns
+returns c = more-is (c .before .before .before .args .f) (c .before .before .before .args .f .«additional_data») Absent (c .enum-told .given .1) (now (c .before .before .before .args .s)) (now (c .before .before .before .args .s)) (c .before .before .before .args .at) (c .before .before .before .args .at) (refl, omega arith)
+
+same-length : tie.Need-same-length
+same-length c = search needs
+
+returns-2 : tie.Need-returns-2
+returns-2 c = more-is (c .before .before .before .args .f) (c .before .before .before .args .f .«additional_data») Empty (c .enum-told2 .given .1) (now (c .before .before .before .args .s)) _ (c .before .before .before .args .at) _ (refl, refl)
+
+same-length-2 : tie.Need-same-length-2
+same-length-2 c = search needs
+
+returns-3 : tie.Need-returns-3
+returns-3 c = more-is (c .before .before .before .before .before .before .before .args .f) (c .before .before .before .before .before .before .before .args .f .«additional_data») Selection (c .before .before .before .before .enum-told3 .given .1) (now (c .before .before .before .before .before .before .before .args .s)) _ (c .before .before .before .before .before .before .before .args .at) _ (c .before .before .put-chosen .ensures)
+
+pub put-more-spec : {M : Type 1} → statement M
+put-more-spec =
+    tie.close
+    (tie.spec
+    enum-told
+    enum-told-2
+    slice-write-s
+    add-result
+    enum-told-3
+    put-chosen-requires
+    returns
+    same-length
+    returns-2
+    same-length-2
+    returns-3)
