@@ -16,3 +16,5 @@ pub mod OneAnswer
 pub mod Refused
 pub mod TextRange
 pub mod Outcomes
+pub mod Bounds
+pub mod ReadJoin

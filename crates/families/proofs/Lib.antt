@@ -16,3 +16,8 @@ pub mod Judged
 pub mod PutFields
 pub mod OneAnswerPopup
 pub mod ExamplesPopup
+pub mod PlaceLaws
+pub mod ScreenLaws
+pub mod ScreenBack
+pub mod OneAnswerScreen
+pub mod FieldPlaces

@@ -169,6 +169,9 @@ forth-by s at q k p h m v e a g i j l th b d eb ed tm tv =
       ),
     )
 
+got-back : (x y : Popup) → got x ≡ got y → y ≡ x
+got-back x y h = cc
+
 pub popup-forth : (s : List ℕ) (at : ℕ) (q : Popup) → Bytes s → at ≤ length s → readPopup s at ≡ got q
     → (okPopup q ≡ true) × ((at + length (writePopup q) ≤ length s) × (take (length (writePopup q)) (drop at s) ≡ writePopup q))
 popup-forth s at q y l r =
@@ -188,7 +191,7 @@ popup-forth s at q y l r =
     let v = x3 .0 in
     let fv = items-forth (valuesItems p) s e v (sound-values p .1) y (omega (arith, fm .1 .0)) (x3 .1 .0) in
     let a = alone-none s b e (end-none k m b) in
-    let i : q ≡ popup k p (h ++ (m ++ v)) = sym (cc) in
+    let i = got-back (popup k p (h ++ (m ++ v))) q (x3 .1 .1) in
     forth-by s at q k p h m v i a (fh .0) (fm .0) (fv .0)
     (omega (arith, fv .1 .0))
     (fh .1 .1) b e eb ee (fm .1 .1) (fv .1 .1)

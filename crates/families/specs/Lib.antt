@@ -12,3 +12,4 @@ pub mod Popup
 pub mod Fields
 pub mod Screen
 pub mod Sizes
+pub mod Places

@@ -1,11 +1,25 @@
-// 0x22 Screen: texts, popups, and the screen commands. The Rust's screen.rs.
+// 0x22 Screen: popups and the screen commands. The Rust's screen.rs; its texts are in text.rt.
 ghost use mathlib.Core.Path.{_≡_};
-ghost use lib.ListN.{length, take};
-ghost use Rattle.codec.specs.Writing.{stopRoom};
-ghost use Rattle.codec.specs.Told.{Writes};
-ghost use Rattle.families.specs.Fields.{construct, PopupIs, inspect, FieldsIs, madePopup};
-ghost use Rattle.families.specs.Screen.{readScreen, ScreenIs, screenBody};
+ghost use mathlib.Core.List.{_∷_, []};
+ghost use Prim.Native.Nat.{_≤_, _<_, _+_};
+ghost use lib.ListN.{length, take, drop};
+ghost use Rattle.codec.specs.Sheet.{got, refused, said};
+ghost use Rattle.codec.specs.Writing.{stopRoom, writeBody};
+ghost use Rattle.codec.specs.Refusals.{refusalNumber};
+ghost use Rattle.codec.specs.Told.{Writes, bit};
+ghost use Rattle.families.specs.Sheets.{screenRows};
+ghost use Rattle.families.specs.Text.{textOf};
+ghost use Rattle.families.specs.Popup.{readPopup};
+ghost use Rattle.families.specs.Places.{SpanIn, spanned, PlacesIn, popupAt, StoredIs};
+ghost use Rattle.families.specs.Fields.{construct, PopupIs, fieldsOf, whole, inspect, isGot, FieldsIs, madePopup};
+ghost use Rattle.families.specs.Screen.{returned, readScreen, ScreenIs, screenBody};
+use crate::popup::Places;
+use crate::popup::PopupRead;
+use crate::popup::Span;
 use crate::text::CommandString;
+use codec::reader::FlagRead;
+use codec::reader::NumberRead;
+use codec::reader::Width;
 use codec::refusal::Outcome;
 use codec::refusal::Refusal;
 use codec::writer::Written;
@@ -48,6 +62,264 @@ pub struct PopupAnswer {
     pub popup: ScreenPopup,
 }
 
+// A popup's bytes stand beside the command.
+pub enum ScreenCommand {
+    PopupMessageStart,
+    SelectionReturnValue { value: u8, response: bool },
+}
+
+pub struct ScreenAnswer {
+    pub outcome: Outcome,
+    pub command: ScreenCommand,
+    pub popup: ScreenPopup,
+}
+
+// With a refusal comes a returned 0, cancelled, and nothing stored.
+fn refusal(n: Refusal) -> ScreenAnswer
+    ensures { λ r. ⌜ ScreenIs (refused (refusalNumber n) 0) r ⌝ }
+{
+    ScreenAnswer {
+        outcome: Outcome::Refused(n),
+        command: ScreenCommand::SelectionReturnValue {
+            value: 0,
+            response: false,
+        },
+        popup: ScreenPopup {
+            len: 0,
+            bytes: [0u8; 55],
+        },
+    }
+}
+
+fn return_of(value: u8, response: bool) -> ScreenAnswer
+    ensures { λ r. ⌜ ScreenIs (got (returned (said 0x02 ((value ∷ []) ∷ (bit response ∷ []) ∷ [])))) r ⌝ }
+{
+    ScreenAnswer {
+        outcome: Outcome::Accepted,
+        command: ScreenCommand::SelectionReturnValue {
+            value: value,
+            response: response,
+        },
+        popup: ScreenPopup {
+            len: 0,
+            bytes: [0u8; 55],
+        },
+    }
+}
+
+// The popup of the n bytes behind the sub-command.
+fn popup_of(body: &[u8], n: usize) -> ScreenAnswer
+    requires { ⌜ 1 + n ≤ length (now body) ⌝ }
+    ensures { λ r. ⌜ StoredIs n (take n (drop 1 (now (body .entry)))) r ⌝ }
+{
+    if 55 < n {
+        return refusal(Refusal::InvalidPayloadLength);
+    }
+    ScreenAnswer {
+        outcome: Outcome::Accepted,
+        command: ScreenCommand::PopupMessageStart,
+        popup: ScreenPopup {
+            len: n,
+            bytes: crate::text::stored(body, 1, n),
+        },
+    }
+}
+
+pub fn read(body: &[u8]) -> ScreenAnswer
+    ensures { λ r. ⌜ ScreenIs (readScreen (now (body .entry))) r ⌝ }
+{
+    match codec::reader::read_number(body, 0, Width::One, 0, 255) {
+        NumberRead::Got(sub) => match sub {
+            0x01 => match crate::popup::parse(body, 1) {
+                PopupRead::Got(p) => popup_of(body, p.values.next - 1),
+                PopupRead::Refused(n) => refusal(n),
+            },
+            0x02 => match codec::reader::read_number(body, 1, Width::One, 0, 255) {
+                NumberRead::Got(v) => match codec::reader::read_flag(body, 2) {
+                    FlagRead::Got(f) => return_of(v as u8, f),
+                    FlagRead::Refused(n) => refusal(n),
+                },
+                NumberRead::Refused(n) => refusal(n),
+            },
+            _ => refusal(Refusal::InvalidPayload),
+        },
+        NumberRead::Refused(n) => refusal(n),
+    }
+}
+
+fn bit_of(b: bool) -> u32
+    ensures { λ r. ⌜ r ≡ bit b ⌝ }
+{
+    if b { 1 } else { 0 }
+}
+
+fn write_return(value: u8, response: bool, body: &mut [u8]) -> Written
+    ensures { λ r. ⌜ Writes (stopRoom (length (now (body .entry))) 3) (writeBody screenRows (said 0x02 ((value ∷ []) ∷ (bit response ∷ []) ∷ []))) r (now (body .entry)) (now (body .exit)) ⌝ }
+{
+    if body.len() < 3 {
+        return Written::Refused(Refusal::BufferOverflow);
+    }
+    let b = bit_of(response);
+    codec::writer::put_number(body, 0, Width::One, 0x02);
+    codec::writer::put_number(body, 1, Width::One, value as u32);
+    codec::writer::put_number(body, 2, Width::One, b);
+    Written::Count(3)
+}
+
+// A popup's bytes as they are.
+fn write_popup(bytes: &[u8], body: &mut [u8]) -> Written
+    ensures { λ r. ⌜ Writes (stopRoom (length (now (body .entry))) (length (0x01 ∷ now (bytes .entry)))) (0x01 ∷ now (bytes .entry)) r (now (body .entry)) (now (body .exit)) ⌝ }
+{
+    if body.len() <= bytes.len() {
+        return Written::Refused(Refusal::BufferOverflow);
+    }
+    codec::writer::put_number(body, 0, Width::One, 0x01);
+    codec::writer::put_bytes(body, 1, bytes);
+    Written::Count(bytes.len() + 1)
+}
+
+fn write_start(bytes: &[u8], len: usize, body: &mut [u8]) -> Written
+    ensures { λ r. ⌜ Writes (stopRoom (length (now (body .entry))) (length (0x01 ∷ take len (now (bytes .entry))))) (0x01 ∷ take len (now (bytes .entry))) r (now (body .entry)) (now (body .exit)) ⌝ }
+{
+    if bytes.len() <= len {
+        return write_popup(bytes, body);
+    }
+    write_popup(&bytes[..len], body)
+}
+
+// `len` bytes stand beside the command; where there are fewer, all of them.
+pub fn write_to(command: ScreenCommand, bytes: &[u8], len: usize, body: &mut [u8]) -> Written
+    ensures { λ r. ⌜ Writes (stopRoom (length (now (body .entry))) (length (screenBody command (take len (now (bytes .entry)))))) (screenBody command (take len (now (bytes .entry)))) r (now (body .entry)) (now (body .exit)) ⌝ }
+{
+    match command {
+        ScreenCommand::PopupMessageStart => write_start(bytes, len, body),
+        ScreenCommand::SelectionReturnValue { value, response } => write_return(
+            value,
+            response,
+            body,
+        ),
+    }
+}
+
+// Whether the bytes are a popup to the last of them.
+fn whole_popup(s: &[u8]) -> bool
+    ensures { λ r. ⌜ r ≡ isGot (whole (length (now (s .entry))) (readPopup (now (s .entry)) 0)) ⌝ }
+{
+    match crate::popup::parse(s, 0) {
+        PopupRead::Got(p) => p.values.next == s.len(),
+        PopupRead::Refused(n) => false,
+    }
+}
+
+fn made_in(s: &[u8], n: usize) -> bool
+    requires { ⌜ length (now s) ≡ 55 ⌝ }
+    ensures { λ r. ⌜ r ≡ madePopup (record { len = n; bytes = now (s .entry) }) ⌝ }
+{
+    if 55 < n {
+        return false;
+    }
+    if crate::text::all_zero(&s[n..]) {
+        return whole_popup(&s[..n]);
+    }
+    false
+}
+
+fn blank_text() -> CommandString
+    ensures { λ r. ⌜ r ≡ textOf [] ⌝ }
+{
+    CommandString {
+        len: 0,
+        bytes: [0u8; 51],
+    }
+}
+
+fn not_made() -> FieldsAnswer
+    ensures { λ r. ⌜ FieldsIs (refused 5 0) r ⌝ }
+{
+    FieldsAnswer {
+        outcome: Outcome::Refused(Refusal::RecordNotMade),
+        fields: ScreenPopupFields {
+            header: blank_text(),
+            info: blank_text(),
+            max_timeout_interval: 0,
+            close_button_option: false,
+            additional_data: ScreenAdditionalData::Absent,
+            selection_text: blank_text(),
+            value: 0,
+            min_value: 0,
+            max_value: 0,
+            default_value: 0,
+            unit: blank_text(),
+            has_possible_values: false,
+            possible_values: blank_text(),
+        },
+    }
+}
+
+fn text_of(s: &[u8], x: Span) -> CommandString
+    requires { ⌜ SpanIn (now s) x ⌝ }
+    ensures { λ r. ⌜ r ≡ textOf (spanned (now (s .entry)) x) ⌝ }
+{
+    crate::text::text_at(s, x.at, x.len)
+}
+
+// The fields at the places of a parse.
+fn fields_at(s: &[u8], p: Places) -> ScreenPopupFields
+    requires { ⌜ PlacesIn (now s) 0 p ⌝ }
+    ensures { λ r. ⌜ r ≡ fieldsOf (popupAt (now (s .entry)) p) ⌝ }
+{
+    let h = p.head;
+    let m = p.more;
+    let v = p.values;
+    let k = m.kind;
+    let f = m.four;
+    ScreenPopupFields {
+        header: text_of(s, h.header),
+        info: text_of(s, h.info),
+        max_timeout_interval: h.timeout,
+        close_button_option: h.close,
+        additional_data: k,
+        selection_text: text_of(s, m.label),
+        value: f.value,
+        min_value: f.least,
+        max_value: f.greatest,
+        default_value: f.preset,
+        unit: text_of(s, m.unit),
+        has_possible_values: v.present,
+        possible_values: text_of(s, v.text),
+    }
+}
+
+fn whole_fields(s: &[u8]) -> FieldsAnswer
+    ensures { λ r. ⌜ FieldsIs (whole (length (now (s .entry))) (readPopup (now (s .entry)) 0)) r ⌝ }
+{
+    match crate::popup::parse(s, 0) {
+        PopupRead::Got(p) => {
+            if p.values.next != s.len() {
+                return not_made();
+            }
+            FieldsAnswer {
+                outcome: Outcome::Accepted,
+                fields: fields_at(s, p),
+            }
+        }
+        PopupRead::Refused(n) => not_made(),
+    }
+}
+
+fn fields_in(s: &[u8], n: usize) -> FieldsAnswer
+    requires { ⌜ length (now s) ≡ 55 ⌝ }
+    ensures { λ r. ⌜ FieldsIs (inspect (record { len = n; bytes = now (s .entry) })) r ⌝ }
+{
+    if 55 < n {
+        return not_made();
+    }
+    if crate::text::all_zero(&s[n..]) {
+        return whole_fields(&s[..n]);
+    }
+    not_made()
+}
+
 impl ScreenPopup {
     // Made of its fields; refused, blank.
     pub fn new(fields: ScreenPopupFields) -> PopupAnswer
@@ -67,16 +339,19 @@ impl ScreenPopup {
             },
         }
     }
-}
 
-// A popup's bytes stand beside the command.
-pub enum ScreenCommand {
-    PopupMessageStart,
-    SelectionReturnValue { value: u8, response: bool },
-}
+    // Whether the constructor gives it for some fields.
+    pub fn made(self) -> bool
+        ensures { λ r. ⌜ r ≡ madePopup self ⌝ }
+    {
+        let b = self.bytes;
+        made_in(&b, self.len)
+    }
 
-pub struct ScreenAnswer {
-    pub outcome: Outcome,
-    pub command: ScreenCommand,
-    pub popup: ScreenPopup,
+    pub fn fields(self) -> FieldsAnswer
+        ensures { λ r. ⌜ FieldsIs (inspect self) r ⌝ }
+    {
+        let b = self.bytes;
+        fields_in(&b, self.len)
+    }
 }

@@ -1,0 +1,43 @@
+-- Additional data is told as it is read, of the kind that the next byte shows. Assumes nothing.
+use denote.Ref.{now}
+use Rattle.families.proofs.PlaceLaws.{more-absent-is, more-empty-is}
+use borrow.Author.Needs.{needs}
+use Rattle.families.proofs.popup.read_more.Statement.{statement}
+use Rattle.families.proofs.popup.read_more.Tie as tie
+
+no-more-requires : tie.Need-no-more-requires
+no-more-requires c κs = search needs
+
+returns : tie.Need-returns
+returns c = more-absent-is (now (c .before .before .before .args .s)) (c .before .before .before .args .at) _ (c .no-more .ensures) (c .before .if1 .taken) (c .before .before .before .pre)
+
+shared-slice-read-if2 : tie.Need-shared-slice-read-if2
+shared-slice-read-if2 c = search needs
+
+add-no-more : tie.Need-add-no-more
+add-no-more c = search needs
+
+no-more-requires-2 : tie.Need-no-more-requires-2
+no-more-requires-2 c κs = search needs
+
+returns-2 : tie.Need-returns-2
+returns-2 c = more-empty-is (now (c .before .before .before .before .before .args .s)) (c .before .before .before .before .before .args .at) _ (c .no-more2 .ensures) (c .before .before .before .if1 .left) (c .before .if2 .taken)
+
+read-chosen-requires : tie.Need-read-chosen-requires
+read-chosen-requires c κs = search needs
+
+returns-3 : tie.Need-returns-3
+returns-3 c = search needs
+
+pub read-more-spec : {M : Type 1} → statement M
+read-more-spec =
+    tie.close
+    (tie.spec
+    no-more-requires
+    returns
+    shared-slice-read-if2
+    add-no-more
+    no-more-requires-2
+    returns-2
+    read-chosen-requires
+    returns-3)

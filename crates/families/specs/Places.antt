@@ -1,0 +1,147 @@
+-- What the one parse of a popup tells: where its items stand. Assumes nothing.
+use Prim.Native.Nat.{ℕ, _+_, _≤_}
+use mathlib.Core.Bool.{Bool, true, false}
+use mathlib.Core.Path.{_≡_}
+use mathlib.Core.List.{List, [], _∷_, _++_}
+use lib.ListN.{length, take, drop}
+use lib.Dec.{leb}
+use Rattle.codec.specs.Pick.{pick}
+use Rattle.codec.specs.Sheet.{Answer, got, refused}
+use Rattle.codec.specs.Refusals.{refusalNumber, outcomeNumber}
+use Rattle.codec.specs.Told.{bit}
+use Rattle.families.specs.Popup.{Popup, popup, kindOf, remains}
+use Rattle.families.specs.Fields.{popupOf}
+use Rattle.families.specs.declared.screen.ScreenAdditionalData.{ScreenAdditionalData}
+use Rattle.families.specs.declared.screen.ScreenAdditionalData.the-variants.{Absent, Empty, Selection}
+use Rattle.families.specs.declared.screen.ScreenCommand.the-variants.{PopupMessageStart, SelectionReturnValue}
+use Rattle.families.specs.declared.screen.ScreenAnswer.{ScreenAnswer}
+use Rattle.families.specs.declared.popup.Span.{Span}
+use Rattle.families.specs.declared.popup.Head.{Head}
+use Rattle.families.specs.declared.popup.HeadRead.{HeadRead}
+use Rattle.families.specs.declared.popup.HeadRead.the-variants.{Got as GotHead, Refused as RefusedHead}
+use Rattle.families.specs.declared.popup.Four.{Four}
+use Rattle.families.specs.declared.popup.FourRead.{FourRead}
+use Rattle.families.specs.declared.popup.FourRead.the-variants.{Got as GotFour, Refused as RefusedFour}
+use Rattle.families.specs.declared.popup.More.{More}
+use Rattle.families.specs.declared.popup.MoreRead.{MoreRead}
+use Rattle.families.specs.declared.popup.MoreRead.the-variants.{Got as GotMore, Refused as RefusedMore}
+use Rattle.families.specs.declared.popup.Values.{Values}
+use Rattle.families.specs.declared.popup.ValuesRead.{ValuesRead}
+use Rattle.families.specs.declared.popup.ValuesRead.the-variants.{Got as GotValues, Refused as RefusedValues}
+use Rattle.families.specs.declared.popup.Places.{Places}
+use Rattle.families.specs.declared.popup.PopupRead.{PopupRead}
+use Rattle.families.specs.declared.popup.PopupRead.the-variants.{Got, Refused}
+
+-- the bytes of a span, and that they are there
+abbrev pub spanned : List ℕ → Span → List ℕ
+spanned s x = take (x .len) (drop (x .at) s)
+
+abbrev pub SpanIn : List ℕ → Span → Type 0
+SpanIn s x = (x .at + x .len ≤ length s) × (x .len ≤ 51)
+
+abbrev pub none : Span
+none = record { at = 0; len = 0 }
+
+-- THE HEAD
+abbrev pub headAt : List ℕ → Head → List (List ℕ)
+headAt s h = spanned s (h .header) ∷ spanned s (h .info) ∷ (h .timeout ∷ []) ∷ (bit (h .close) ∷ []) ∷ []
+
+abbrev pub toldHead : List ℕ → HeadRead → Answer (List (List ℕ))
+toldHead s (GotHead h) = got (headAt s h)
+toldHead s (RefusedHead r) = refused (refusalNumber r) 0
+
+abbrev pub HeadIn : List ℕ → ℕ → Head → Type 0
+HeadIn s at h =
+    ((h .header .at ≡ at) × SpanIn s (h .header))
+    × (((h .info .at ≡ at + (h .header .len + 1)) × SpanIn s (h .info))
+    × ((h .next ≡ h .info .at + (h .info .len + 1) + 2) × (h .next ≤ length s)))
+
+abbrev pub headIn : List ℕ → ℕ → HeadRead → Type 0
+headIn s at (GotHead h) = HeadIn s at h
+headIn s at (RefusedHead r) = Unit {0}
+
+-- ADDITIONAL DATA
+abbrev pub fourAt : Four → List (List ℕ)
+fourAt f = (f .value ∷ []) ∷ (f .least ∷ []) ∷ (f .greatest ∷ []) ∷ (f .preset ∷ []) ∷ []
+
+abbrev pub toldFour : FourRead → Answer (List (List ℕ))
+toldFour (GotFour f) = got (fourAt f)
+toldFour (RefusedFour r) = refused (refusalNumber r) 0
+
+abbrev pub fourIn : List ℕ → ℕ → FourRead → Type 0
+fourIn s at (GotFour f) = at + 4 ≤ length s
+fourIn s at (RefusedFour r) = Unit {0}
+
+abbrev pub moreBy : ScreenAdditionalData → List ℕ → More → List (List ℕ)
+moreBy Absent s m = []
+moreBy Empty s m = [] ∷ []
+moreBy Selection s m = spanned s (m .label) ∷ (fourAt (m .four) ++ (spanned s (m .unit) ∷ []))
+
+abbrev pub toldMore : List ℕ → MoreRead → Answer (List (List ℕ))
+toldMore s (GotMore m) = got (moreBy (m .kind) s m)
+toldMore s (RefusedMore r) = refused (refusalNumber r) 0
+
+-- no selection: nothing of it stands anywhere
+abbrev pub noMore : ScreenAdditionalData → ℕ → More
+noMore k n = record { kind = k; label = none; four = record { value = 0; least = 0; greatest = 0; preset = 0 }; unit = none; next = n }
+
+abbrev pub MoreIs : ScreenAdditionalData → ℕ → More → Type 0
+MoreIs Absent at m = m ≡ noMore Absent at
+MoreIs Empty at m = m ≡ noMore Empty (at + 1)
+MoreIs Selection at m =
+    (m .label .at ≡ at) × ((m .unit .at ≡ at + (m .label .len + 1) + 4) × (m .next ≡ m .unit .at + (m .unit .len + 1)))
+
+abbrev pub MoreIn : List ℕ → ℕ → More → Type 0
+MoreIn s at m =
+    (m .kind ≡ kindOf (drop at s))
+    × (MoreIs (m .kind) at m × (SpanIn s (m .label) × (SpanIn s (m .unit) × (m .next ≤ length s))))
+
+abbrev pub moreIn : List ℕ → ℕ → MoreRead → Type 0
+moreIn s at (GotMore m) = MoreIn s at m
+moreIn s at (RefusedMore r) = Unit {0}
+
+-- POSSIBLE VALUES
+abbrev pub valuesBy : Bool → List ℕ → Values → List (List ℕ)
+valuesBy true s v = spanned s (v .text) ∷ []
+valuesBy false s v = []
+
+abbrev pub toldValues : List ℕ → ValuesRead → Answer (List (List ℕ))
+toldValues s (GotValues v) = got (valuesBy (v .present) s v)
+toldValues s (RefusedValues r) = refused (refusalNumber r) 0
+
+abbrev pub ValuesIs : Bool → ℕ → Values → Type 0
+ValuesIs false at v = v ≡ record { present = false; text = none; next = at }
+ValuesIs true at v = (v .text .at ≡ at) × (v .next ≡ at + (v .text .len + 1))
+
+abbrev pub ValuesIn : List ℕ → ℕ → Values → Type 0
+ValuesIn s at v =
+    (v .present ≡ remains (drop at s))
+    × (ValuesIs (v .present) at v × (SpanIn s (v .text) × (v .next ≤ length s)))
+
+abbrev pub valuesIn : List ℕ → ℕ → ValuesRead → Type 0
+valuesIn s at (GotValues v) = ValuesIn s at v
+valuesIn s at (RefusedValues r) = Unit {0}
+
+-- THE POPUP
+abbrev pub popupAt : List ℕ → Places → Popup
+popupAt s p =
+    popup (p .more .kind) (p .values .present)
+    (headAt s (p .head) ++ (moreBy (p .more .kind) s (p .more) ++ valuesBy (p .values .present) s (p .values)))
+
+abbrev pub toldPlaces : List ℕ → PopupRead → Answer Popup
+toldPlaces s (Got p) = got (popupAt s p)
+toldPlaces s (Refused r) = refused (refusalNumber r) 0
+
+abbrev pub PlacesIn : List ℕ → ℕ → Places → Type 0
+PlacesIn s at p =
+    HeadIn s at (p .head) × (MoreIn s (p .head .next) (p .more) × ValuesIn s (p .more .next) (p .values))
+
+abbrev pub placesIn : List ℕ → ℕ → PopupRead → Type 0
+placesIn s at (Got p) = PlacesIn s at p
+placesIn s at (Refused r) = Unit {0}
+
+-- n bytes w, stored as a popup's, if there are at most 55
+abbrev pub StoredIs : ℕ → List ℕ → ScreenAnswer → Type 0
+StoredIs n w r =
+    (outcomeNumber (r .outcome) ≡ pick (leb n 55) 0 1)
+    × ((r .command ≡ pick (leb n 55) PopupMessageStart (SelectionReturnValue 0 false)) × (r .popup ≡ popupOf (pick (leb n 55) w [])))

@@ -1,0 +1,237 @@
+// One parse of a popup: it tells where the items stand, and serves reading, inspection, made and the edits.
+ghost use mathlib.Core.Path.{_≡_};
+ghost use mathlib.Core.List.{_∷_, []};
+ghost use Prim.Native.Nat.{_≤_, _<_};
+ghost use lib.ListN.{length, drop, getD};
+ghost use Rattle.codec.specs.Sheet.{byte};
+ghost use Rattle.codec.specs.Reading.{readItems};
+ghost use Rattle.families.specs.Popup.{headItems, moreItems, valuesItems, kindOf, remains, readPopup};
+ghost use Rattle.families.specs.Places.{none, noMore, toldHead, headIn, toldFour, fourIn, toldMore, moreIn, toldValues, valuesIn, toldPlaces, placesIn};
+use crate::screen::ScreenAdditionalData;
+use codec::reader::FlagRead;
+use codec::reader::NumberRead;
+use codec::reader::TextRead;
+use codec::reader::Width;
+use codec::refusal::Refusal;
+
+// A text's bytes: their place and their number.
+pub(crate) struct Span {
+    pub(crate) at: usize,
+    pub(crate) len: usize,
+}
+
+pub(crate) struct Head {
+    pub(crate) header: Span,
+    pub(crate) info: Span,
+    pub(crate) timeout: u8,
+    pub(crate) close: bool,
+    pub(crate) next: usize,
+}
+
+pub(crate) enum HeadRead {
+    Got(Head),
+    Refused(Refusal),
+}
+
+// A selection's value, min, max and default.
+pub(crate) struct Four {
+    pub(crate) value: u8,
+    pub(crate) least: u8,
+    pub(crate) greatest: u8,
+    pub(crate) preset: u8,
+}
+
+pub(crate) enum FourRead {
+    Got(Four),
+    Refused(Refusal),
+}
+
+// Additional data: without a selection its texts and numbers are blank.
+pub(crate) struct More {
+    pub(crate) kind: ScreenAdditionalData,
+    pub(crate) label: Span,
+    pub(crate) four: Four,
+    pub(crate) unit: Span,
+    pub(crate) next: usize,
+}
+
+pub(crate) enum MoreRead {
+    Got(More),
+    Refused(Refusal),
+}
+
+pub(crate) struct Values {
+    pub(crate) present: bool,
+    pub(crate) text: Span,
+    pub(crate) next: usize,
+}
+
+pub(crate) enum ValuesRead {
+    Got(Values),
+    Refused(Refusal),
+}
+
+pub(crate) struct Places {
+    pub(crate) head: Head,
+    pub(crate) more: More,
+    pub(crate) values: Values,
+}
+
+pub(crate) enum PopupRead {
+    Got(Places),
+    Refused(Refusal),
+}
+
+fn read_head(s: &[u8], at: usize) -> HeadRead
+    ensures { λ r. ⌜ (toldHead (now (s .entry)) r ≡ readItems headItems (now (s .entry)) at) × headIn (now (s .entry)) at r ⌝ }
+{
+    match codec::reader::read_text(s, at, 51) {
+        TextRead::Got { len: h, next: p } => match codec::reader::read_text(s, p, 51) {
+            TextRead::Got { len: i, next: q } => match codec::reader::read_number(
+                s,
+                q,
+                Width::One,
+                0,
+                255,
+            ) {
+                NumberRead::Got(t) => match codec::reader::read_flag(s, q + 1) {
+                    FlagRead::Got(c) => HeadRead::Got(Head {
+                        header: Span { at: at, len: h },
+                        info: Span { at: p, len: i },
+                        timeout: t as u8,
+                        close: c,
+                        next: q + 2,
+                    }),
+                    FlagRead::Refused(r) => HeadRead::Refused(r),
+                },
+                NumberRead::Refused(r) => HeadRead::Refused(r),
+            },
+            TextRead::Refused(r) => HeadRead::Refused(r),
+        },
+        TextRead::Refused(r) => HeadRead::Refused(r),
+    }
+}
+
+fn read_four(s: &[u8], at: usize) -> FourRead
+    requires { ⌜ at ≤ length (now s) ⌝ }
+    ensures { λ r. ⌜ (toldFour r ≡ readItems (byte ∷ byte ∷ byte ∷ byte ∷ []) (now (s .entry)) at) × fourIn (now (s .entry)) at r ⌝ }
+{
+    match codec::reader::read_number(s, at, Width::One, 0, 255) {
+        NumberRead::Got(a) => match codec::reader::read_number(s, at + 1, Width::One, 0, 255) {
+            NumberRead::Got(b) => match codec::reader::read_number(s, at + 2, Width::One, 0, 255) {
+                NumberRead::Got(c) => match codec::reader::read_number(
+                    s,
+                    at + 3,
+                    Width::One,
+                    0,
+                    255,
+                ) {
+                    NumberRead::Got(d) => FourRead::Got(Four {
+                        value: a as u8,
+                        least: b as u8,
+                        greatest: c as u8,
+                        preset: d as u8,
+                    }),
+                    NumberRead::Refused(r) => FourRead::Refused(r),
+                },
+                NumberRead::Refused(r) => FourRead::Refused(r),
+            },
+            NumberRead::Refused(r) => FourRead::Refused(r),
+        },
+        NumberRead::Refused(r) => FourRead::Refused(r),
+    }
+}
+
+fn no_more(kind: ScreenAdditionalData, next: usize) -> More
+    ensures { λ r. ⌜ r ≡ noMore kind next ⌝ }
+{
+    More {
+        kind: kind,
+        label: Span { at: 0, len: 0 },
+        four: Four {
+            value: 0,
+            least: 0,
+            greatest: 0,
+            preset: 0,
+        },
+        unit: Span { at: 0, len: 0 },
+        next: next,
+    }
+}
+
+// A selection: its label is not empty.
+fn read_chosen(s: &[u8], at: usize) -> MoreRead
+    requires { ⌜ (at < length (now s)) × (getD (now s) at 0 ≡ 0 → ⊥) ⌝ }
+    ensures { λ r. ⌜ (toldMore (now (s .entry)) r ≡ readItems (moreItems (kindOf (drop at (now (s .entry))))) (now (s .entry)) at) × moreIn (now (s .entry)) at r ⌝ }
+{
+    match codec::reader::read_text(s, at, 51) {
+        TextRead::Got { len: l, next: p } => match read_four(s, p) {
+            FourRead::Got(f) => match codec::reader::read_text(s, p + 4, 51) {
+                TextRead::Got { len: u, next: q } => MoreRead::Got(More {
+                    kind: ScreenAdditionalData::Selection,
+                    label: Span { at: at, len: l },
+                    four: f,
+                    unit: Span { at: p + 4, len: u },
+                    next: q,
+                }),
+                TextRead::Refused(r) => MoreRead::Refused(r),
+            },
+            FourRead::Refused(r) => MoreRead::Refused(r),
+        },
+        TextRead::Refused(r) => MoreRead::Refused(r),
+    }
+}
+
+fn read_more(s: &[u8], at: usize) -> MoreRead
+    requires { ⌜ at ≤ length (now s) ⌝ }
+    ensures { λ r. ⌜ (toldMore (now (s .entry)) r ≡ readItems (moreItems (kindOf (drop at (now (s .entry))))) (now (s .entry)) at) × moreIn (now (s .entry)) at r ⌝ }
+{
+    if s.len() <= at {
+        return MoreRead::Got(no_more(ScreenAdditionalData::Absent, at));
+    }
+    if s[at] == 0 {
+        return MoreRead::Got(no_more(ScreenAdditionalData::Empty, at + 1));
+    }
+    read_chosen(s, at)
+}
+
+fn read_values(s: &[u8], at: usize) -> ValuesRead
+    requires { ⌜ at ≤ length (now s) ⌝ }
+    ensures { λ r. ⌜ (toldValues (now (s .entry)) r ≡ readItems (valuesItems (remains (drop at (now (s .entry))))) (now (s .entry)) at) × valuesIn (now (s .entry)) at r ⌝ }
+{
+    if s.len() <= at {
+        return ValuesRead::Got(Values {
+            present: false,
+            text: Span { at: 0, len: 0 },
+            next: at,
+        });
+    }
+    match codec::reader::read_text(s, at, 51) {
+        TextRead::Got { len: n, next: q } => ValuesRead::Got(Values {
+            present: true,
+            text: Span { at: at, len: n },
+            next: q,
+        }),
+        TextRead::Refused(r) => ValuesRead::Refused(r),
+    }
+}
+
+// A popup from a place of the bytes on.
+pub(crate) fn parse(s: &[u8], at: usize) -> PopupRead
+    ensures { λ r. ⌜ (toldPlaces (now (s .entry)) r ≡ readPopup (now (s .entry)) at) × placesIn (now (s .entry)) at r ⌝ }
+{
+    match read_head(s, at) {
+        HeadRead::Got(h) => match read_more(s, h.next) {
+            MoreRead::Got(m) => match read_values(s, m.next) {
+                ValuesRead::Got(v) => PopupRead::Got(Places {
+                    head: h,
+                    more: m,
+                    values: v,
+                }),
+                ValuesRead::Refused(r) => PopupRead::Refused(r),
+            },
+            MoreRead::Refused(r) => PopupRead::Refused(r),
+        },
+        HeadRead::Refused(r) => PopupRead::Refused(r),
+    }
+}
