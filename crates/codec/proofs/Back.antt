@@ -1,18 +1,18 @@
--- What is written reads back, once over all sheets.
-use Prim.Native.Nat.{ℕ, zero, suc, _+_, _*_, _/_, _%_, _^_, _<_, _≤_}
+-- What is written reads back, once over all sheets. Assumes nothing.
+use Prim.Native.Nat.{ℕ, _+_, _*_, _/_, _%_, _^_, _<_, _≤_}
 use mathlib.Core.Bool.{Bool, true, false}
 use mathlib.Core.List.{List, [], _∷_, _++_, append-assoc}
-use mathlib.Core.Path.{_≡_, refl, ap, sym, _∙_}
+use mathlib.Core.Path.{_≡_, refl, ap}
 use native.Mathlib.Omega.{arith}
 use native.Mathlib.Nat.{lt-of-lt-of-le}
-use lib.ListN.{length, take, drop, length-append}
+use lib.ListN.{length, length-append}
 use lib.Seq.{take-at, drop-append-seam}
 use lib.Dec.{leb, ltb, eqb}
 use lib.Pow.{pow-mono}
 use borrow.Author.Tests.{le-ltb, lt-ltb, ltb-true, ltb-false, leb-true, eqb-true}
 use Rattle.codec.specs.Pick.{pick}
-use Rattle.codec.specs.Digits.{sum, join, split, numberOf, bytesOf}
-use Rattle.codec.specs.Sheet.{Field, field, Item, packed, text, Row, row, widths, Answer, got, refused, andThen, sizeOf, Said, said, byte, first}
+use Rattle.codec.specs.Digits.{sum, join, bytesOf}
+use Rattle.codec.specs.Sheet.{Field, field, Item, packed, text, Row, row, widths, got, andThen, sizeOf, said, byte}
 use Rattle.codec.specs.Reading.{within, before0, shorter, readItem, readItems, readRow, readBody}
 use Rattle.codec.specs.Writing.{nonzero, okItem, itemBytes, writeItems, okItems, itemsOf, writeBody}
 use Rattle.codec.specs.Sound.{soundFields, soundItem, soundItems, soundRows, hasRow}

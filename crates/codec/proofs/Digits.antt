@@ -1,11 +1,11 @@
--- The law of digits, once over their widths: a number's digits give it back, and digits that fit come back from their number.
-use Prim.Native.Nat.{ℕ, zero, suc, _+_, _*_, _/_, _%_, _^_, _<_, _≤_}
-use mathlib.Core.List.{List, [], _∷_, _++_}
-use mathlib.Core.Path.{_≡_, refl, ap, sym, _∙_, subst}
+-- The law of digits, once over their widths: a number's digits give it back, and digits that fit come back from their number. Assumes nothing.
+use Prim.Native.Nat.{ℕ, zero, suc, _+_, _*_, _/_, _%_, _^_, _<_}
+use mathlib.Core.List.{List, [], _∷_}
+use mathlib.Core.Path.{_≡_, refl, ap, sym, _∙_}
 use native.Mathlib.Omega.{arith}
-use native.Mathlib.Nat.{mod-eq-of-lt, mod-lt, mul-assoc, mul-add-div-right, mul-add-mod-self-right, mod-one, add-zero}
+use native.Mathlib.Nat.{mod-eq-of-lt, mod-lt, mul-assoc, mul-add-div-right, mul-add-mod-self-right, mod-one}
 use lib.Arith.{digits-lt, digits-div, mod-mul}
-use lib.Pow.{pow-pos, pow-add, pow-mono}
+use lib.Pow.{pow-pos, pow-add}
 use lib.ListN.{length, replicate, length-replicate}
 use Rattle.codec.specs.Digits.{sum, join, split, numberOf, bytesOf}
 

@@ -1,25 +1,25 @@
--- What was read is what would be written: for items that use all their bits, over bytes.
-use Prim.Native.Nat.{ℕ, zero, suc, _+_, _*_, _/_, _%_, _^_, _<_, _≤_}
+-- What was read is what would be written: for items that use all their bits, over bytes. Assumes nothing.
+use Prim.Native.Nat.{ℕ, zero, suc, _+_, _*_, _^_, _<_, _≤_}
 use mathlib.Core.Bool.{Bool, true, false}
 use mathlib.Core.List.{List, [], _∷_, _++_}
-use mathlib.Core.Path.{_≡_, refl, ap, sym, _∙_}
+use mathlib.Core.Path.{_≡_, refl, ap, sym}
 use native.Mathlib.Omega.{arith}
 use native.Mathlib.Nat.{mod-eq-of-lt}
 use native.Mathlib.Numerals.{add-one}
-use lib.ListN.{length, take, drop, getD, replicate, length-append, length-drop}
-use lib.Seq.{length-take-le, drop-drop, getD-drop, getD-take, take-add, drop-cons, take-suc}
-use lib.Dec.{leb, ltb, eqb}
-use borrow.Author.Tests.{le-leb, ltb-true, ltb-false, eqb-true, lt-ltb}
+use lib.ListN.{length, take, drop, replicate, length-append, length-drop}
+use lib.Seq.{length-take-le, drop-drop, take-add}
+use lib.Dec.{ltb, eqb}
+use borrow.Author.Tests.{le-leb, ltb-true, ltb-false, eqb-true}
 use Rattle.codec.specs.Pick.{pick}
-use Rattle.codec.specs.Digits.{sum, join, split, numberOf, bytesOf}
+use Rattle.codec.specs.Digits.{sum, split, numberOf, bytesOf}
 use Rattle.codec.specs.Sheet.{Item, packed, text, widths, Answer, got, refused, andThen, sizeOf}
 use Rattle.codec.specs.Reading.{within, before0, shorter, readItem, readItems}
 use Rattle.codec.specs.Writing.{nonzero, okItem, itemBytes, writeItems, okItems}
 use Rattle.codec.specs.Sound.{exactItem, exactItems}
 use Rattle.crc.specs.Check.{Bytes}
 use Rattle.crc.proofs.Laws.{bytes-take}
-use Rattle.codec.proofs.Digits.{Fit, join-lt, split-join, join-split, length-bytesOf, sum-eights}
-use Rattle.codec.proofs.Back.{both, passed, size-is}
+use Rattle.codec.proofs.Digits.{Fit, join-lt, split-join, join-split, sum-eights}
+use Rattle.codec.proofs.Back.{both, size-is}
 
 -- an answer that was got came from answers that were got
 pub and-got : {A B : Type 0} (a : Answer A) (f : A → Answer B) (b : B) → andThen a f ≡ got b → (x : A) × ((a ≡ got x) × (f x ≡ got b))

@@ -1,8 +1,8 @@
--- What reading an item at a place comes to, once over all packed items.
+-- What reading an item at a place comes to, once over all packed items. Assumes nothing.
 use Prim.Native.Nat.{ℕ, zero, suc, _+_, _-_, _*_, _^_, _<_, _≤_}
 use mathlib.Core.Bool.{Bool, true, false}
 use mathlib.Core.List.{List, [], _∷_}
-use mathlib.Core.Path.{_≡_, refl, ap, sym, _∙_}
+use mathlib.Core.Path.{_≡_, refl, _∙_}
 use native.Mathlib.Omega.{arith}
 use native.Mathlib.Nat.{mod-eq-of-lt, div-one}
 use lib.ListN.{length, take, drop, length-drop}
@@ -11,7 +11,7 @@ use borrow.Author.Tests.{le-ltb, lt-ltb}
 use Rattle.codec.proofs.Writes.{test-true, test-false}
 use Rattle.codec.specs.Pick.{pick}
 use Rattle.codec.specs.Digits.{split, numberOf}
-use Rattle.codec.specs.Sheet.{Field, field, Item, packed, widths, Answer, got, refused, number}
+use Rattle.codec.specs.Sheet.{Field, field, packed, widths, Answer, got, refused, number}
 use Rattle.codec.specs.Refusals.{refusalNumber}
 use Rattle.codec.specs.Told.{toldNumber, atMost, bit}
 use Rattle.codec.specs.declared.refusal.Refusal.{Refusal}

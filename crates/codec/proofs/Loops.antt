@@ -1,15 +1,15 @@
--- What the loops' turns cite.
-use Prim.Native.Nat.{ℕ, zero, suc, _+_, _-_, _*_, _/_, _%_, _^_, _<_, _≤_}
+-- What the loops' turns cite. Assumes nothing.
+use Prim.Native.Nat.{ℕ, suc, _+_, _-_, _*_, _/_, _%_, _^_, _<_, _≤_}
 use mathlib.Core.List.{List, [], _∷_, _++_}
-use mathlib.Core.Path.{_≡_, refl, ap, sym, _∙_}
+use mathlib.Core.Path.{_≡_, refl, ap, _∙_}
 use native.Mathlib.Omega.{arith}
 use native.Mathlib.Numerals.{add-one}
-use native.Mathlib.Nat.{mul-assoc, mul-comm, le-trans}
+use native.Mathlib.Nat.{mul-assoc}
 use lib.Arith.{digits-lt}
-use lib.Pow.{pow-pos, pow-add, pow-mono, shr-shr}
+use lib.Pow.{pow-add, pow-mono, shr-shr}
 use lib.ListN.{length, take, drop, getD, set, replicate, length-append, length-drop}
 use lib.Seq.{sets, length-sets, set-comm, take-suc, take-all, length-take-le, getD-drop}
-use Rattle.codec.specs.Digits.{sum, join, split, numberOf, bytesOf}
+use Rattle.codec.specs.Digits.{sum, numberOf, bytesOf}
 use Rattle.codec.proofs.Digits.{sum-eights}
 
 -- one byte more at the end

@@ -1,5 +1,5 @@
 -- A packed item from the number of its bytes, once over all packed items. Assumes nothing.
-use Prim.Native.Nat.{ℕ, zero, suc, _+_, _-_, _*_, _/_, _%_, _^_, _<_, _≤_}
+use Prim.Native.Nat.{ℕ, _+_, _-_, _*_, _/_, _%_, _^_, _<_, _≤_}
 use mathlib.Core.Bool.{Bool, true, false}
 use mathlib.Core.List.{List, [], _∷_}
 use mathlib.Core.Path.{_≡_, refl, ap, sym, _∙_}
@@ -11,7 +11,7 @@ use lib.Pow.{pow-pos, pow-add}
 use borrow.Author.Tests.{le-ltb, lt-ltb, leb-true}
 use Rattle.codec.specs.Pick.{pick}
 use Rattle.codec.specs.Digits.{sum, split, numberOf, bytesOf}
-use Rattle.codec.specs.Sheet.{Field, field, Item, packed, number, byte, flag, widths, Answer, got, refused}
+use Rattle.codec.specs.Sheet.{Field, field, Item, packed, number, byte, flag, widths, got, refused}
 use Rattle.codec.specs.Reading.{within, readItem}
 use Rattle.codec.specs.Writing.{okItem, itemBytes}
 use Rattle.codec.specs.Told.{bit}

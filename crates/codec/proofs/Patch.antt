@@ -1,10 +1,9 @@
--- The patch theorem, once over all sheets.
+-- The patch theorem, once over all sheets. Assumes nothing.
 use Prim.Native.Nat.{ℕ, zero, suc, _+_, _-_, _*_, _/_, _%_, _^_, _<_, _≤_}
-use mathlib.Core.Bool.{Bool, true, false}
-use mathlib.Core.List.{List, [], _∷_, _++_, append-assoc}
+use mathlib.Core.Bool.{true, false}
+use mathlib.Core.List.{List, [], _∷_, _++_}
 use mathlib.Core.Path.{_≡_, refl, ap, sym, _∙_}
 use native.Mathlib.Omega.{arith}
-use native.Mathlib.Nat.{add-comm, add-assoc}
 use lib.ListN.{length, take, drop, getD, set, length-append, length-set, length-drop}
 use lib.Seq.{sets, sets-eq, set-append-left, take-at, drop-at, drop-append-add, drop-append-le, take-append-le}
 use lib.Dec.{ltb, leb}

@@ -1,8 +1,7 @@
--- Items put one after the other are their bytes put at once.
+-- Items put one after the other are their bytes put at once. Assumes nothing.
 use Prim.Native.Nat.{ℕ, _+_}
-use mathlib.Core.List.{List, [], _∷_, _++_}
-use mathlib.Core.Path.{_≡_, refl, ap, sym, _∙_}
-use lib.ListN.{length}
+use mathlib.Core.List.{List, [], _∷_}
+use mathlib.Core.Path.{_≡_, refl, sym, _∙_}
 use lib.Seq.{sets}
 use Rattle.codec.specs.Sheet.{Item, Row, Said, said, sizeOf}
 use Rattle.codec.specs.Writing.{itemBytes, writeItems, itemsOf, writeBody, putItems, putBody}

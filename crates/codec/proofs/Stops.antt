@@ -1,14 +1,14 @@
--- What the judging functions' branches cite.
-use Prim.Native.Nat.{ℕ, suc, _+_, _<_, _≤_}
+-- What the judging functions' branches cite. Assumes nothing.
+use Prim.Native.Nat.{ℕ, suc, _+_, _≤_}
 use mathlib.Core.List.{List, [], _∷_, _++_}
 use lib.ListN.{length, length-append}
 use mathlib.Core.Bool.{Bool, true, false}
-use mathlib.Core.Path.{_≡_, refl, sym, ap, _∙_}
+use mathlib.Core.Path.{_≡_, refl}
 use native.Mathlib.Omega.{arith}
 use lib.Dec.{ltb, eqb}
 use borrow.Author.Tests.{ltb-true, ltb-false, lt-ltb, le-ltb, eqb-true}
 use Rattle.codec.specs.Pick.{pick}
-use Rattle.codec.specs.Sheet.{Item, Row, Said, said, sizeOf, Answer, got}
+use Rattle.codec.specs.Sheet.{Item, Row, Said, said, sizeOf, got}
 use Rattle.codec.specs.Reading.{readBody}
 use Rattle.codec.specs.Writing.{okItem, okItems, itemBytes, writeItems, itemsOf, writeBody, stopEach, stopInOrder, stopValuesFirst}
 use Rattle.codec.specs.Sound.{known, hasRow, soundRows}

@@ -1,16 +1,16 @@
--- Reading a text at a place.
-use Prim.Native.Nat.{ℕ, zero, suc, _+_, _-_, _<_, _≤_}
+-- Reading a text at a place. Assumes nothing.
+use Prim.Native.Nat.{ℕ, _+_, _-_, _<_, _≤_}
 use mathlib.Core.Bool.{Bool, true, false}
-use mathlib.Core.List.{List, [], _∷_, _++_}
-use mathlib.Core.Path.{_≡_, refl, ap, sym, _∙_}
+use mathlib.Core.List.{List, [], _∷_}
+use mathlib.Core.Path.{_≡_, refl, ap, sym}
 use native.Mathlib.Omega.{arith}
 use native.Mathlib.Numerals.{add-one}
 use lib.ListN.{length, getD, drop, take, drop-of-length-le, length-drop}
 use lib.Seq.{drop-cons, length-take-le}
-use lib.Dec.{ltb, eqb}
+use lib.Dec.{eqb}
 use borrow.Author.Tests.{eq-eqb, ne-eqb, lt-ltb, le-ltb}
 use Rattle.codec.specs.Pick.{pick}
-use Rattle.codec.specs.Sheet.{text, Answer, got, refused}
+use Rattle.codec.specs.Sheet.{text, got, refused}
 use Rattle.codec.specs.Reading.{before0, readItem}
 
 pub before-zero : (s : List ℕ) (i : ℕ) → i < length s → getD s i 0 ≡ 0 → before0 (drop i s) ≡ []

@@ -1,7 +1,7 @@
 -- Answers of the code: each tells one thing, and what is told fixes it. Assumes nothing.
 use Prim.Native.Nat.{ℕ, zero, suc, _+_, _-_, _<_, _≤_}
 use mathlib.Core.Bool.{Bool, true, false}
-use mathlib.Core.List.{List, [], _∷_, _++_}
+use mathlib.Core.List.{List, _++_}
 use mathlib.Core.Path.{_≡_, refl, ap, sym, _∙_}
 use native.Mathlib.Omega.{arith}
 use lib.ListN.{length}
@@ -13,7 +13,7 @@ use Rattle.codec.specs.Digits.{bytesOf}
 use Rattle.codec.specs.Sheet.{Row, said, Answer, got, refused, first}
 use Rattle.codec.specs.Writing.{okItems, itemsOf, writeBody, counted, leaves, putAt, stopRoom, stopInOrder, stopValuesFirst}
 use Rattle.codec.specs.Refusals.{refusalNumber}
-use Rattle.codec.specs.Told.{toldNumber, toldFlag, toldText, textIn, toldWritten, Writes, bit}
+use Rattle.codec.specs.Told.{toldNumber, toldFlag, toldWritten, Writes}
 use Rattle.codec.specs.declared.refusal.Refusal.{Refusal}
 use Rattle.codec.specs.declared.refusal.Refusal.the-variants.{InvalidPayloadLength, InvalidPayload, BufferOverflow, FamilyLeftBehind, RecordNotMade, NotAsWritten, NoSuchField, NumberOutsideRange}
 use Rattle.codec.specs.declared.reader.NumberRead.{NumberRead}

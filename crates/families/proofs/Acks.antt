@@ -4,8 +4,8 @@ use mathlib.Core.Bool.{Bool, true, false}
 use mathlib.Core.List.{List, [], _∷_, _++_, append-nil}
 use mathlib.Core.Path.{_≡_, refl, ap, sym, _∙_}
 use native.Mathlib.Omega.{arith}
-use lib.ListN.{length, getD, drop, take, set, length-set, length-drop, length-append, drop-of-length-le}
-use lib.Seq.{sets, drop-cons, length-take-le, take-length, take-all}
+use lib.ListN.{length, getD, drop, take, set, length-set, length-drop, length-append}
+use lib.Seq.{sets, drop-cons, length-take-le, take-length}
 use lib.Dec.{ltb, leb}
 use borrow.Author.Tests.{le-ltb, le-leb, lt-leb, leb-true, leb-false, ltb-false}
 use Rattle.codec.specs.Pick.{pick}
@@ -13,11 +13,7 @@ use Rattle.codec.specs.Digits.{numberOf}
 use Rattle.codec.specs.Sheet.{Answer, got, refused, andThen, Item, sizeOf, text, byte, field, first}
 use Rattle.codec.specs.Reading.{readItem, readItems}
 use Rattle.codec.specs.Writing.{nonzero, okItems, writeItems, stopRoom, counted, putAt}
-use Rattle.codec.specs.Refusals.{refusalNumber}
-use Rattle.codec.specs.Told.{toldText}
 use Rattle.codec.specs.declared.refusal.Outcome.the-variants.{Accepted}
-use Rattle.codec.specs.declared.reader.TextRead.{TextRead}
-use Rattle.codec.specs.declared.reader.TextRead.the-variants.{Got, Refused}
 use Rattle.codec.proofs.Items.{number-is, item-is, item-short, ltb-zero}
 use Rattle.codec.proofs.Packed.{number-ok, number-over}
 use Rattle.codec.proofs.Loops.{sets-append}

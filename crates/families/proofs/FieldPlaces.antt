@@ -4,10 +4,9 @@ use mathlib.Core.Bool.{Bool}
 use mathlib.Core.List.{List, _++_}
 use mathlib.Core.Path.{_≡_}
 use native.Mathlib.Omega.{arith}
-use lib.ListN.{length}
 use Rattle.codec.specs.Edit.{placeOf}
 use Rattle.families.specs.Popup.{popupItems}
-use Rattle.families.specs.Places.{headAt, moreBy, valuesBy, HeadIn, MoreIs, SpanIn}
+use Rattle.families.specs.Places.{headAt, moreBy, HeadIn, MoreIs, SpanIn}
 use Rattle.families.specs.declared.screen.ScreenAdditionalData.{ScreenAdditionalData}
 use Rattle.families.specs.declared.screen.ScreenAdditionalData.the-variants.{Selection}
 use Rattle.families.specs.declared.popup.Head.{Head}

@@ -10,7 +10,7 @@ use Rattle.codec.specs.Sheet.{Said, said, first}
 use Rattle.families.specs.Fc.{fcSays}
 use Rattle.families.specs.Osd.{osdSays}
 use Rattle.families.specs.Vtx.{vtxSays}
-use Rattle.families.specs.Led.{colorSays, ledSays}
+use Rattle.families.specs.Led.{ledSays}
 use Rattle.families.specs.General.{generalSays}
 use Rattle.families.specs.Crossfire.{crossfireSays}
 use Rattle.families.specs.FlowControl.{flowSays}

@@ -14,7 +14,6 @@ pub mod PopupLaws
 pub mod Made
 pub mod Judged
 pub mod PutFields
-pub mod OneAnswerPopup
 pub mod ExamplesPopup
 pub mod PlaceLaws
 pub mod ScreenLaws

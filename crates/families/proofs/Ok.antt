@@ -1,11 +1,10 @@
 -- Values whose types keep them in range. Assumes nothing.
-use Prim.Native.Nat.{ℕ, _<_, _≤_}
+use Prim.Native.Nat.{ℕ, _<_}
 use mathlib.Core.Bool.{Bool, true, false}
 use mathlib.Core.List.{List, [], _∷_}
-use mathlib.Core.Path.{_≡_, refl}
+use mathlib.Core.Path.{_≡_}
 use native.Mathlib.Omega.{arith}
 use lib.ListN.{length}
-use lib.Dec.{ltb}
 use borrow.Author.Tests.{le-ltb}
 use Rattle.codec.specs.Sheet.{Row, said, byte, word, long, flag}
 use Rattle.codec.specs.Writing.{itemsOf, writeBody, okItems, stopRoom, stopInOrder, stopValuesFirst}

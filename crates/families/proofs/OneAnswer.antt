@@ -58,6 +58,8 @@ use Rattle.families.proofs.flow_control.read.Reads as flow-read
 use Rattle.families.proofs.flow_control.read.Kinds as flow-read-kinds
 use Rattle.families.proofs.flow_control.write_to.Reads as flow-write-to
 use Rattle.families.proofs.flow_control.write_to.Kinds as flow-write-to-kinds
+use Rattle.families.proofs.payload.command_id.Reads as command-id
+use Rattle.families.proofs.payload.command_id.Kinds as command-id-kinds
 
 -- ---- 0x01 FC
 abbrev pub fcTold : Answer Said → FcRead
@@ -177,3 +179,8 @@ flow-read-one κs a x y s t p q = sym (flow-told x) ∙ ap flowTold (p ∙ sym q
 pub flow-write-to-one : (κs : Lfts 1) (a : Dens κs flow-write-to-kinds.ps) (x y : resT flow-write-to-kinds.r κs .Denot) (s t : AtExit (endedOf 1 flow-write-to-kinds.ps flow-write-to-kinds.r) κs)
     → flow-write-to.Post κs a x s → flow-write-to.Post κs a y t → (x ≡ y) × (now (s .1 .0) ≡ now (t .1 .0))
 flow-write-to-one κs a x y s t p q = (written-fixed x y _ (p .0) (q .0), p .1 ∙ sym (q .1))
+
+-- ---- the enum of families
+pub command-id-one : (κs : Lfts 0) (a : Dens κs command-id-kinds.ps) (x y : resT command-id-kinds.r κs .Denot) (s t : AtExit (endedOf 0 command-id-kinds.ps command-id-kinds.r) κs)
+    → command-id.Post κs a x s → command-id.Post κs a y t → x ≡ y
+command-id-one κs a x y s t p q = p ∙ sym q

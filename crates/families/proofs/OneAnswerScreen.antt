@@ -7,12 +7,13 @@ use borrow.Fn.Kinds.{Dens, resT, endedOf}
 use denote.Triple.Clauses.{AtExit}
 use denote.Ref.{now}
 use Rattle.codec.specs.Sheet.{Answer}
-use Rattle.codec.specs.Refusals.{numberIn}
 use Rattle.codec.specs.Writing.{stopRoom}
 use Rattle.codec.proofs.Outcomes.{outcome-one}
 use Rattle.codec.proofs.Writes.{writes-one}
-use Rattle.families.specs.Fields.{inspect, FieldsIs}
+use Rattle.families.specs.Fields.{construct, PopupIs, inspect, FieldsIs}
 use Rattle.families.specs.Screen.{ScreenSaid, readScreen, ScreenIs, screenBody}
+use Rattle.families.specs.declared.screen.ScreenPopup.{ScreenPopup}
+use Rattle.families.specs.declared.screen.PopupAnswer.{PopupAnswer}
 use Rattle.families.specs.declared.screen.ScreenPopupFields.{ScreenPopupFields}
 use Rattle.families.specs.declared.screen.FieldsAnswer.{FieldsAnswer}
 use Rattle.families.specs.declared.screen.ScreenAnswer.{ScreenAnswer}
@@ -20,6 +21,8 @@ use Rattle.families.proofs.screen.read.Reads as read
 use Rattle.families.proofs.screen.read.Kinds as read-kinds
 use Rattle.families.proofs.screen.write_to.Reads as write
 use Rattle.families.proofs.screen.write_to.Kinds as write-kinds
+use Rattle.families.proofs.screen.ScreenPopup.new.Reads as new
+use Rattle.families.proofs.screen.ScreenPopup.new.Kinds as new-kinds
 use Rattle.families.proofs.screen.ScreenPopup.made.Reads as made
 use Rattle.families.proofs.screen.ScreenPopup.made.Kinds as made-kinds
 use Rattle.families.proofs.screen.ScreenPopup.fields.Reads as fields
@@ -30,6 +33,9 @@ answer-one a x y p q = rw (outcome-one (x .outcome) (y .outcome) (p .0 ∙ sym (
 
 fields-answer-one : (a : Answer ScreenPopupFields) (x y : FieldsAnswer) → FieldsIs a x → FieldsIs a y → x ≡ y
 fields-answer-one a x y p q = rw (outcome-one (x .outcome) (y .outcome) (p .0 ∙ sym (q .0)), p .1 ∙ sym (q .1))
+
+popup-answer-one : (a : Answer ScreenPopup) (x y : PopupAnswer) → PopupIs a x → PopupIs a y → x ≡ y
+popup-answer-one a x y p q = rw (outcome-one (x .outcome) (y .outcome) (p .0 ∙ sym (q .0)), p .1 ∙ sym (q .1))
 
 pub read-one : (κs : Lfts 1) (a : Dens κs read-kinds.ps) (x y : resT read-kinds.r κs .Denot) (s t : AtExit (endedOf 1 read-kinds.ps read-kinds.r) κs)
     → read.Post κs a x s → read.Post κs a y t → x ≡ y
@@ -49,3 +55,7 @@ made-one κs a x y s t p q = p ∙ sym q
 pub fields-one : (κs : Lfts 0) (a : Dens κs fields-kinds.ps) (x y : resT fields-kinds.r κs .Denot) (s t : AtExit (endedOf 0 fields-kinds.ps fields-kinds.r) κs)
     → fields.Post κs a x s → fields.Post κs a y t → x ≡ y
 fields-one κs a x y s t p q = fields-answer-one (inspect (a .0)) x y p q
+
+pub new-one : (κs : Lfts 0) (a : Dens κs new-kinds.ps) (x y : resT new-kinds.r κs .Denot) (s t : AtExit (endedOf 0 new-kinds.ps new-kinds.r) κs)
+    → new.Post κs a x s → new.Post κs a y t → x ≡ y
+new-one κs a x y s t p q = popup-answer-one (construct (a .0)) x y p q

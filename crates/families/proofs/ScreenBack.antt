@@ -1,13 +1,12 @@
 -- Screen commands read back, and a popup that was read from data is made. Assumes nothing.
-use Prim.Native.Nat.{ℕ, zero, suc, _+_, _-_, _<_, _≤_}
+use Prim.Native.Nat.{ℕ, _+_, _-_, _<_, _≤_}
 use mathlib.Core.Bool.{Bool, true, false}
 use mathlib.Core.List.{List, [], _∷_, _++_}
 use mathlib.Core.Path.{_≡_, refl, ap, _∙_}
 use native.Mathlib.Omega.{arith}
-use lib.ListN.{length, drop, replicate}
-use lib.Seq.{take-append-seam, drop-append-seam}
+use lib.ListN.{length, drop}
 use lib.Dec.{leb, eqb}
-use borrow.Author.Tests.{le-leb, leb-true, eq-eqb}
+use borrow.Author.Tests.{le-leb, leb-true}
 use Rattle.crc.specs.Check.{Bytes}
 use Rattle.codec.specs.Pick.{pick}
 use Rattle.codec.specs.Sheet.{Answer, got, refused, andThen, Said, said, byte, flag, field, first}
@@ -18,9 +17,8 @@ use Rattle.codec.proofs.Back.{item-back, body-back}
 use Rattle.codec.proofs.Forth.{and-got}
 use Rattle.codec.proofs.Bounds.{packed-there}
 use Rattle.families.specs.Sheets.{screenRows}
-use Rattle.families.specs.Text.{zeros}
 use Rattle.families.specs.Popup.{Popup, popup, readPopup, okPopup, writePopup, fitted}
-use Rattle.families.specs.Fields.{popupOf, inspect, fieldsOf, madePopup}
+use Rattle.families.specs.Fields.{madePopup}
 use Rattle.families.specs.Screen.{started, returned, readScreen, screenOf, storedOf, screenBody}
 use Rattle.families.specs.declared.screen.ScreenAdditionalData.{ScreenAdditionalData}
 use Rattle.families.specs.declared.screen.ScreenCommand.the-variants.{PopupMessageStart, SelectionReturnValue}

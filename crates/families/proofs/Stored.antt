@@ -1,8 +1,8 @@
 -- Loops over stored bytes, and a part copied over zeros. Assumes nothing.
 use Prim.Native.Nat.{ℕ, zero, suc, _+_, _-_, _<_, _≤_}
 use mathlib.Core.Bool.{Bool, true, false}
-use mathlib.Core.List.{List, [], _∷_, _++_}
-use mathlib.Core.Path.{_≡_, refl, ap, sym, _∙_}
+use mathlib.Core.List.{List, _++_}
+use mathlib.Core.Path.{_≡_, refl}
 use native.Mathlib.Omega.{arith}
 use native.Mathlib.Numerals.{add-one}
 use native.Mathlib.Nat.{add-sub-cancel-left, zero-sub, sub-zero, suc-sub-suc}
@@ -12,7 +12,6 @@ use borrow.Author.Tests.{eq-eqb, ne-eqb, le-leb}
 use Rattle.codec.specs.Pick.{pick}
 use Rattle.codec.specs.Writing.{nonzero}
 use Rattle.families.specs.Text.{zeros, madeBytes, padded, textOf}
-use Rattle.families.specs.declared.text.CommandString.{CommandString}
 
 pub nonzero-stop : (s : List ℕ) (i : ℕ) → i < length s → getD s i 0 ≡ 0 → nonzero (drop i s) ≡ false
 nonzero-stop s i h e = rw (drop-cons s i 0 h, eq-eqb (getD s i 0) 0 e)

@@ -13,3 +13,4 @@ pub mod Fields
 pub mod Screen
 pub mod Sizes
 pub mod Places
+pub mod Payload

@@ -1,4 +1,5 @@
--- What the one parse of a popup tells: where its items stand. Assumes nothing.
+-- What the one parse of a popup tells: where its items stand. For the contracts of private functions: nobody has to believe this
+-- file. Assumes nothing.
 use Prim.Native.Nat.{ℕ, _+_, _≤_}
 use mathlib.Core.Bool.{Bool, true, false}
 use mathlib.Core.Path.{_≡_}

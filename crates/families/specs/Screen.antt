@@ -1,6 +1,5 @@
 -- 0x22 Screen: 01 popup; 02 value(1), response(flag). Assumes nothing.
 use Prim.Native.Nat.{ℕ}
-use mathlib.Core.Bool.{Bool, true, false}
 use mathlib.Core.Path.{_≡_}
 use mathlib.Core.List.{List, [], _∷_}
 use lib.ListN.{drop, getD}

@@ -1,5 +1,4 @@
 -- Document 01, "Family sheets", in its order. Assumes nothing.
-use Prim.Native.Nat.{ℕ}
 use mathlib.Core.List.{List, [], _∷_}
 use Rattle.codec.specs.Sheet.{field, Item, packed, text, Row, row, number, byte, word, long, flag}
 

@@ -1,4 +1,5 @@
--- What the types of a popup's fields keep, and the bytes that their additional data take. Assumes nothing.
+-- What the types of a popup's fields keep, and its constructor judged by sizes alone. For the contracts of private functions: nobody
+-- has to believe this file. Assumes nothing.
 use Prim.Native.Nat.{ℕ, _+_, _<_}
 use mathlib.Core.Bool.{Bool, false}
 use mathlib.Core.Path.{_≡_}

@@ -7,6 +7,7 @@ pub mod flow_control;
 pub mod general;
 pub mod led;
 pub mod osd;
+pub mod payload;
 mod popup;
 pub mod screen;
 pub mod text;

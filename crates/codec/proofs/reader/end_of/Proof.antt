@@ -1,3 +1,4 @@
+-- `reader::end_of` meets its contract. Assumes nothing.
 use Prim.Native.Nat.{_+_, _-_, _≤_}
 use mathlib.Core.Path.{_≡_, refl, ap}
 use native.Mathlib.Omega.{arith}
@@ -8,8 +9,6 @@ use Rattle.codec.specs.Reading.{before0}
 use Rattle.codec.proofs.Texts.{before-zero, before-end, before-more}
 use Rattle.codec.proofs.reader.end_of.Statement.{statement}
 use Rattle.codec.proofs.reader.end_of.Tie as tie
-use Rattle.codec.proofs.reader.end_of.Reads as reads
-use Rattle.codec.proofs.reader.end_of.Lts as lts
 
 abbrev Inv-loop : tie.InvT-loop
 Inv-loop s at i₀ i = (i ≤ length s) × (at + length (before0 (drop at s)) ≡ i + length (before0 (drop i s)))
@@ -17,31 +16,24 @@ Inv-loop s at i₀ i = (i ≤ length s) × (at + length (before0 (drop at s)) �
 abbrev μ-loop : tie.MeasureT-loop
 μ-loop s at i₀ i = length s - i
 
--- src/lib.rt:33:5
 loop-holds : tie.Need-loop-holds Inv-loop μ-loop
 loop-holds c = (c .pre, refl)
 
--- src/lib.rt:34:12
 shared-slice-read-if1 : tie.Need-shared-slice-read-if1 Inv-loop μ-loop
 shared-slice-read-if1 c = search needs
 
--- src/lib.rt:35:13
 returns : tie.Need-returns Inv-loop μ-loop
 returns c = omega (arith, ap length (before-zero (now (c .before .before .before .before .args .s)) (c .before .before .before .loop .i) (c .before .before .loop-test .taken) (c .if1 .taken)))
 
--- src/lib.rt:37:9
 add-i : tie.Need-add-i Inv-loop μ-loop
 add-i c = search needs
 
--- src/lib.rt:33:5
 loop-less : tie.Need-loop-less Inv-loop μ-loop
 loop-less c = search needs
 
--- src/lib.rt:33:5
 loop-again : tie.Need-loop-again Inv-loop μ-loop
 loop-again c = (search needs, omega (arith, ap length (before-more (now (c .before .before .before .before .args .s)) (c .before .before .before .loop .i) (c .before .before .loop-test .taken) (c .if1 .left))))
 
--- src/lib.rt:28:1
 returns-2 : tie.Need-returns-2 Inv-loop μ-loop
 returns-2 c = omega (arith, ap length (before-end (now (c .before .before .args .s)) (c .before .loop .i) (c .loop-test .left)))
 

@@ -1,3 +1,4 @@
+-- `reader::read_text` meets its contract. Assumes nothing.
 use mathlib.Core.Path.{sym}
 use native.Mathlib.Omega.{arith}
 use denote.Ref.{now}
@@ -5,39 +6,28 @@ use Rattle.codec.proofs.Texts.{none-left, no-end, too-long, text-is}
 use borrow.Author.Needs.{needs}
 use Rattle.codec.proofs.reader.read_text.Statement.{statement}
 use Rattle.codec.proofs.reader.read_text.Tie as tie
-use Rattle.codec.proofs.reader.read_text.Reads as reads
-use Rattle.codec.proofs.reader.read_text.Lts as lts
-use Rattle.codec.proofs.reader.end_of.Reads as end-of-reads
 
--- src/reader.rt:122:9
 returns : tie.Need-returns
 returns c = (sym (none-left _ (now (c .before .before .args .s)) _ (c .if1 .taken)), tt)
 
--- src/reader.rt:124:9
 end-of-requires : tie.Need-end-of-requires
 end-of-requires c κs = search needs
 
--- src/reader.rt:126:9
 returns-2 : tie.Need-returns-2
 returns-2 c = (sym (no-end _ (now (c .before .before .before .before .args .s)) _ _ (c .before .end-of .ensures) (c .if2 .taken)), tt)
 
--- src/reader.rt:128:15
 sub-if3 : tie.Need-sub-if3
 sub-if3 c = search needs
 
--- src/reader.rt:129:9
 returns-3 : tie.Need-returns-3
 returns-3 c = (sym (too-long _ (now (c .before .before .before .before .before .args .s)) _ _ (c .before .before .end-of .ensures) (c .before .if2 .left) (c .if3 .taken)), tt)
 
--- src/reader.rt:131:26
 sub-t5 : tie.Need-sub-t5
 sub-t5 c = search needs
 
--- src/reader.rt:131:42
 add-t10 : tie.Need-add-t10
 add-t10 c = search needs
 
--- src/reader.rt:118:1
 returns-4 : tie.Need-returns-4
 returns-4 c = (text-is _ (now (c .before .before .before .before .before .args .s)) _ _ (c .before .before .end-of .ensures) (c .before .if2 .left) (c .if3 .left), (omega arith, omega arith))
 

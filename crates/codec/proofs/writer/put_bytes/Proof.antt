@@ -1,31 +1,23 @@
+-- `writer::put_bytes` meets its contract. Assumes nothing.
 use mathlib.Core.Path.{sym, _∙_}
 use denote.Ref.{now}
 use Rattle.codec.proofs.Writes.{test-true, test-false, put-not, put-fits}
 use borrow.Author.Needs.{needs}
 use Rattle.codec.proofs.writer.put_bytes.Statement.{statement}
 use Rattle.codec.proofs.writer.put_bytes.Tie as tie
-use Rattle.codec.proofs.writer.put_bytes.Reads as reads
-use Rattle.codec.proofs.writer.put_bytes.Lts as lts
-use Rattle.codec.proofs.reader.beyond.Reads as beyond-reads
-use Rattle.codec.proofs.writer.put_each.Reads as put-each-reads
 
--- src/writer.rt:70:8
 beyond-requires : tie.Need-beyond-requires
 beyond-requires c κs = search needs
 
--- src/writer.rt:71:9
 returns : tie.Need-returns
 returns c = sym (put-not (now (c .before .before .before .before .args .s)) _ (now (c .before .before .before .before .args .t)) (test-true _ _ _ (c .before .beyond .ensures) (c .if1 .taken)))
 
--- src/writer.rt:73:5
 put-each-requires : tie.Need-put-each-requires
 put-each-requires c κs = test-false _ _ _ (c .before .before .beyond .ensures) (c .before .if1 .left)
 
--- src/writer.rt:67:1
 same-length : tie.Need-same-length
 same-length c = search needs
 
--- src/writer.rt:67:1
 returns-2 : tie.Need-returns-2
 returns-2 c = (c .before .before .put-each .ensures) ∙ sym (put-fits (now (c .before .before .before .before .before .before .before .before .args .s)) _ (now (c .before .before .before .before .before .before .before .before .args .t)) (test-false _ _ _ (c .before .before .before .before .before .beyond .ensures) (c .before .before .before .before .if1 .left)))
 

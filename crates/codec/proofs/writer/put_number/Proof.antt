@@ -1,36 +1,26 @@
-use mathlib.Core.Path.{sym, _∙_}
+-- `writer::put_number` meets its contract. Assumes nothing.
+use mathlib.Core.Path.{sym}
 use denote.Ref.{now}
 use Rattle.codec.proofs.Writes.{test-true, test-false, put-number-not, put-number-is}
 use borrow.Author.Needs.{needs}
 use Rattle.codec.proofs.writer.put_number.Statement.{statement}
 use Rattle.codec.proofs.writer.put_number.Tie as tie
-use Rattle.codec.proofs.writer.put_number.Reads as reads
-use Rattle.codec.proofs.writer.put_number.Lts as lts
-use Rattle.codec.proofs.reader.beyond.Reads as beyond-reads
-use Rattle.codec.proofs.reader.bytes_of.Reads as bytes-of-reads
-use Rattle.codec.proofs.writer.put_back.Reads as put-back-reads
 
--- src/writer.rt:48:9
 bytes-of-requires : tie.Need-bytes-of-requires
 bytes-of-requires c κs = search needs
 
--- src/writer.rt:49:8
 beyond-requires : tie.Need-beyond-requires
 beyond-requires c κs = search needs
 
--- src/writer.rt:50:9
 returns : tie.Need-returns
 returns c = sym (put-number-not (now (c .before .before .before .before .args .s)) _ _ _ _ (c .before .before .bytes-of .ensures .0) (test-true _ _ _ (c .before .beyond .ensures) (c .if1 .taken)))
 
--- src/writer.rt:52:5
 put-back-requires : tie.Need-put-back-requires
 put-back-requires c κs = test-false _ _ _ (c .before .before .beyond .ensures) (c .before .if1 .left)
 
--- src/writer.rt:45:1
 same-length : tie.Need-same-length
 same-length c = search needs
 
--- src/writer.rt:45:1
 returns-2 : tie.Need-returns-2
 returns-2 c = put-number-is (now (c .before .before .before .before .before .before .before .before .args .s)) _ _ _ _ _ (c .before .before .before .before .before .before .bytes-of .ensures .0) (test-false _ _ _ (c .before .before .before .before .before .beyond .ensures) (c .before .before .before .before .if1 .left)) (c .before .before .put-back .ensures)
 

@@ -1,14 +1,11 @@
+-- `writer::room_for` meets its contract. Assumes nothing.
 use borrow.Author.Tests.{lt-ltb, le-ltb}
 use Rattle.codec.proofs.writer.room_for.Statement.{statement}
 use Rattle.codec.proofs.writer.room_for.Tie as tie
-use Rattle.codec.proofs.writer.room_for.Reads as reads
-use Rattle.codec.proofs.writer.room_for.Lts as lts
 
--- src/writer.rt:21:1
 returns : tie.Need-returns
 returns c = rw (lt-ltb _ _ (c .if1 .taken))
 
--- src/writer.rt:21:1
 returns-2 : tie.Need-returns-2
 returns-2 c = rw (le-ltb _ _ (c .if1 .left))
 

@@ -1,26 +1,21 @@
-use mathlib.Core.Path.{_≡_, refl}
+-- `writer::write_alone` meets its contract. Assumes nothing.
+use mathlib.Core.Path.{refl}
 use mathlib.Core.List.{_∷_, []}
 use denote.Ref.{now}
 use Rattle.codec.proofs.Writes.{writes-room, writes-none}
 use borrow.Author.Needs.{needs}
 use Rattle.codec.proofs.writer.write_alone.Statement.{statement}
 use Rattle.codec.proofs.writer.write_alone.Tie as tie
-use Rattle.codec.proofs.writer.write_alone.Reads as reads
-use Rattle.codec.proofs.writer.write_alone.Lts as lts
 
--- src/writer.rt:81:9
 returns : tie.Need-returns
 returns c = writes-none (now (c .before .args .s)) (c .before .args .sub ∷ []) (c .if1 .taken)
 
--- src/writer.rt:83:5
 slice-write-s : tie.Need-slice-write-s
 slice-write-s c = search needs
 
--- src/writer.rt:77:1
 same-length : tie.Need-same-length
 same-length c = search needs
 
--- src/writer.rt:77:1
 returns-2 : tie.Need-returns-2
 returns-2 c = writes-room (now (c .before .args .s)) (c .before .args .sub ∷ []) _ (c .if1 .left) refl
 

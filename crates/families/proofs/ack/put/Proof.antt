@@ -1,11 +1,9 @@
 -- The bytes of an ACK stored one after the other are its items. Assumes nothing.
-use lib.ListN.{set}
-use Rattle.families.proofs.Acks.{put-in, put-same}
+use lib.ListN.{set, length, length-set}
+use Rattle.families.proofs.Acks.{put-in, put-same, put-is}
 use Prim.Native.Nat.{_<_}
 use native.Mathlib.Omega.{arith}
 use denote.Ref.{now}
-use lib.ListN.{length, length-set}
-use Rattle.families.proofs.Acks.{put-is}
 use borrow.Author.Needs.{needs}
 use Rattle.families.proofs.ack.put.Statement.{statement}
 use Rattle.families.proofs.ack.put.Tie as tie

@@ -1,3 +1,4 @@
+-- `ack::read` meets its contract. Assumes nothing.
 use native.Mathlib.Omega.{arith}
 use denote.Ref.{now}
 use Rattle.codec.proofs.TextRange.{text-most}
@@ -5,76 +6,56 @@ use Rattle.families.proofs.Acks.{Opens, ack-short, ack-action, ack-got,
 use borrow.Author.Needs.{needs}
 use Rattle.families.proofs.ack.read.Statement.{statement}
 use Rattle.families.proofs.ack.read.Tie as tie
-use Rattle.families.proofs.ack.read.Reads as reads
-use Rattle.families.proofs.ack.read.Lts as lts
-use Rattle.codec.proofs.reader.read_text.Reads as read-text-reads
-use Rattle.families.proofs.ack.accepted.Reads as accepted-reads
-use Rattle.families.proofs.ack.refused_with.Reads as refused-with-reads
 
--- src/ack.rt:104:9
 refused-with-requires : tie.Need-refused-with-requires
 refused-with-requires c κs = search needs
 
--- src/ack.rt:104:9
 returns : tie.Need-returns
 returns c = rw (ack-short (now (c .before .before .before .args .body)) (c .before .if1 .taken)) (c .refused-with .ensures)
 
--- src/ack.rt:106:11
 read-text-requires : tie.Need-read-text-requires
 read-text-requires c κs = search needs
 
--- src/ack.rt:107:25
 enum-known-len : tie.Need-enum-known-len
 enum-known-len c = search needs
 
--- src/ack.rt:108:20
 shared-slice-read-if2 : tie.Need-shared-slice-read-if2
 shared-slice-read-if2 c = search needs
 
--- src/ack.rt:109:17
 refused-with-requires-2 : tie.Need-refused-with-requires-2
 refused-with-requires-2 c κs = search needs
 
--- src/ack.rt:109:17
 returns-2 : tie.Need-returns-2
 returns-2 c = let s = now (c .before .before .before .before .before .before .before .before .before .args .body) in
     let k = c .before .before .before .before .before .before .before .before .shared-slice-known .given in
     let o : Opens s = (c .before .before .before .before .before .before .before .if1 .left, (omega (arith, k 0), (omega (arith, k 1), omega (arith, k 2)))) in
     rw (ack-action s _ o (rw (c .before .before .before .before .len .given .1) at (c .before .before .before .before .before .before .read-text .ensures .0)) (c .before .if2 .taken)) (c .refused-with2 .ensures)
 
--- src/ack.rt:111:22
 shared-slice-read-accepted : tie.Need-shared-slice-read-accepted
 shared-slice-read-accepted c = search needs
 
--- src/ack.rt:111:31
 shared-slice-read-accepted-2 : tie.Need-shared-slice-read-accepted-2
 shared-slice-read-accepted-2 c = search needs
 
--- src/ack.rt:111:40
 shared-slice-read-accepted-3 : tie.Need-shared-slice-read-accepted-3
 shared-slice-read-accepted-3 c = search needs
 
--- src/ack.rt:111:13
 accepted-requires : tie.Need-accepted-requires
 accepted-requires c κs = let k = rw (c .before .before .before .before .before .before .len .given .1) at (c .before .before .before .before .before .before .before .before .read-text .ensures .1) in
     (omega (arith, k .0), text-most 52 (now (c .before .before .before .before .before .before .before .before .before .before .before .args .body)) 3 _ (k .0) (rw (c .before .before .before .before .before .before .len .given .1) at (c .before .before .before .before .before .before .before .before .read-text .ensures .0)))
 
--- src/ack.rt:113:27
 enum-known-r : tie.Need-enum-known-r
 enum-known-r c = search needs
 
--- src/ack.rt:113:33
 refused-with-requires-3 : tie.Need-refused-with-requires-3
 refused-with-requires-3 c κs = search needs
 
--- src/ack.rt:100:1
 returns-3 : tie.Need-returns-3
 returns-3 c = let s = now (c .before .before .before .before .before .before .before .before .before .before .before .before .args .body) in
     let k = c .before .before .before .before .before .before .before .before .before .before .before .shared-slice-known .given in
     let o : Opens s = (c .before .before .before .before .before .before .before .before .before .before .if1 .left, (omega (arith, k 0), (omega (arith, k 1), omega (arith, k 2)))) in
     rw (ack-got s _ o (rw (c .before .before .before .before .before .before .before .len .given .1) at (c .before .before .before .before .before .before .before .before .before .read-text .ensures .0)) (c .before .before .before .before .if2 .left)) (c .accepted .ensures)
 
--- src/ack.rt:100:1
 returns-4 : tie.Need-returns-4
 returns-4 c = let s = now (c .before .before .before .before .before .before .before .args .body) in
     let k = c .before .before .before .before .before .before .shared-slice-known .given in

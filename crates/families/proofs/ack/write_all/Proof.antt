@@ -1,11 +1,10 @@
 -- Writing an ACK: values first, then room. Assumes nothing.
-use Rattle.families.proofs.Acks.{has-room}
+use Rattle.families.proofs.Acks.{has-room, told-is}
 use denote.Ref.{now}
 use lib.ListN.{length}
 use Rattle.codec.specs.Writing.{writeItems}
 use Rattle.codec.proofs.Writes.{writes-count, writes-refused}
 use Rattle.families.specs.Ack.{ackItems, ackSays, stopAck}
-use Rattle.families.proofs.Acks.{told-is}
 use borrow.Author.Needs.{needs}
 use Rattle.families.proofs.ack.write_all.Statement.{statement}
 use Rattle.families.proofs.ack.write_all.Tie as tie

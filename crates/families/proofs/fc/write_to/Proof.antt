@@ -1,39 +1,29 @@
+-- `fc::write_to` meets its contract. Assumes nothing.
 use borrow.Author.Needs.{needs}
 use Rattle.families.proofs.fc.write_to.Statement.{statement}
 use Rattle.families.proofs.fc.write_to.Tie as tie
-use Rattle.families.proofs.fc.write_to.Reads as reads
-use Rattle.families.proofs.fc.write_to.Lts as lts
-use Rattle.codec.proofs.writer.write_alone.Reads as write-alone-reads
 
--- src/fc.rt:41:68
 enum-told : tie.Need-enum-told
 enum-told c = search needs
 
--- src/fc.rt:41:35
 write-alone-requires : tie.Need-write-alone-requires
 write-alone-requires c κs = search needs
 
--- src/fc.rt:42:69
 enum-told-2 : tie.Need-enum-told-2
 enum-told-2 c = search needs
 
--- src/fc.rt:42:36
 write-alone-requires-2 : tie.Need-write-alone-requires-2
 write-alone-requires-2 c κs = search needs
 
--- src/fc.rt:37:1
 same-length : tie.Need-same-length
 same-length c = search needs
 
--- src/fc.rt:37:1
 returns : tie.Need-returns
 returns c = rw (c .before .before .before .before .enum-told .given .1) (c .before .before .write-alone .ensures)
 
--- src/fc.rt:37:1
 same-length-2 : tie.Need-same-length-2
 same-length-2 c = search needs
 
--- src/fc.rt:37:1
 returns-2 : tie.Need-returns-2
 returns-2 c = rw (c .before .before .before .before .enum-told2 .given .1) (c .before .before .write-alone2 .ensures)
 

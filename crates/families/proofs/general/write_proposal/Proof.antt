@@ -1,3 +1,4 @@
+-- `general::write_proposal` meets its contract. Assumes nothing.
 use Prim.Native.Nat.{_<_}
 use mathlib.Core.Path.{refl}
 use mathlib.Core.List.{_∷_, []}
@@ -11,32 +12,23 @@ use Rattle.families.proofs.Ok.{byte-long}
 use borrow.Author.Needs.{needs}
 use Rattle.families.proofs.general.write_proposal.Statement.{statement}
 use Rattle.families.proofs.general.write_proposal.Tie as tie
-use Rattle.families.proofs.general.write_proposal.Reads as reads
-use Rattle.families.proofs.general.write_proposal.Lts as lts
-use Rattle.codec.proofs.writer.put_number.Reads as put-number-reads
 
--- src/general.rt:55:9
 returns : tie.Need-returns
 returns c = let h : c .before .before .args .port < 256 = search needs in let k : c .before .before .args .baud < 4294967296 = search needs in
     no-room generalRows 0x70 ((c .before .before .args .port ∷ []) ∷ (c .before .before .args .baud ∷ []) ∷ []) (now (c .before .before .args .body)) 6 (byte-long (c .before .before .args .port) (c .before .before .args .baud) h k) refl (c .if1 .taken)
 
--- src/general.rt:57:5
 put-number-requires : tie.Need-put-number-requires
 put-number-requires c κs = search needs
 
--- src/general.rt:58:5
 put-number-requires-2 : tie.Need-put-number-requires-2
 put-number-requires-2 c κs = search needs
 
--- src/general.rt:59:5
 put-number-requires-3 : tie.Need-put-number-requires-3
 put-number-requires-3 c κs = search needs
 
--- src/general.rt:51:1
 same-length : tie.Need-same-length
 same-length c = search needs
 
--- src/general.rt:51:1
 returns-2 : tie.Need-returns-2
 returns-2 c = let h : c .before .before .before .before .before .before .before .before .before .before .before .before .before .before .args .port < 256 = search needs in let k : c .before .before .before .before .before .before .before .before .before .before .before .before .before .before .args .baud < 4294967296 = search needs in
     let s = now (c .before .before .before .before .before .before .before .before .before .before .before .before .before .before .args .body) in

@@ -1,3 +1,4 @@
+-- `general::write_response` meets its contract. Assumes nothing.
 use Prim.Native.Nat.{_<_}
 use mathlib.Core.Path.{refl}
 use mathlib.Core.List.{_∷_, []}
@@ -12,37 +13,26 @@ use Rattle.families.proofs.Ok.{byte-flag}
 use borrow.Author.Needs.{needs}
 use Rattle.families.proofs.general.write_response.Statement.{statement}
 use Rattle.families.proofs.general.write_response.Tie as tie
-use Rattle.families.proofs.general.write_response.Reads as reads
-use Rattle.families.proofs.general.write_response.Lts as lts
-use Rattle.codec.proofs.writer.put_number.Reads as put-number-reads
-use Rattle.families.proofs.general.bit_of.Reads as bit-of-reads
 
--- src/general.rt:73:9
 returns : tie.Need-returns
 returns c = let h : c .before .before .args .port < 256 = search needs in
     no-room generalRows 0x71 ((c .before .before .args .port ∷ []) ∷ (bit (c .before .before .args .accepted) ∷ []) ∷ []) (now (c .before .before .args .body)) 3 (byte-flag (c .before .before .args .port) (c .before .before .args .accepted) h) refl (c .if1 .taken)
 
--- src/general.rt:75:9
 bit-of-requires : tie.Need-bit-of-requires
 bit-of-requires c κs = search needs
 
--- src/general.rt:76:5
 put-number-requires : tie.Need-put-number-requires
 put-number-requires c κs = search needs
 
--- src/general.rt:77:5
 put-number-requires-2 : tie.Need-put-number-requires-2
 put-number-requires-2 c κs = search needs
 
--- src/general.rt:78:5
 put-number-requires-3 : tie.Need-put-number-requires-3
 put-number-requires-3 c κs = search needs
 
--- src/general.rt:69:1
 same-length : tie.Need-same-length
 same-length c = search needs
 
--- src/general.rt:69:1
 returns-2 : tie.Need-returns-2
 returns-2 c = let h : c .before .before .before .before .before .before .before .before .before .before .before .before .before .before .before .args .port < 256 = search needs in
     let s = now (c .before .before .before .before .before .before .before .before .before .before .before .before .before .before .before .args .body) in
