@@ -26,8 +26,8 @@ use Rattle.codec.proofs.reader.read_flag.Reads as read-flag
 use Rattle.codec.proofs.reader.read_flag.Kinds as read-flag-kinds
 use Rattle.codec.proofs.reader.read_text.Reads as read-text
 use Rattle.codec.proofs.reader.read_text.Kinds as read-text-kinds
-use Rattle.codec.proofs.writer.room_for.Reads as room-for
-use Rattle.codec.proofs.writer.room_for.Kinds as room-for-kinds
+use Rattle.codec.proofs.writer.bit_of.Reads as bit-of
+use Rattle.codec.proofs.writer.bit_of.Kinds as bit-of-kinds
 use Rattle.codec.proofs.writer.values_first.Reads as values-first
 use Rattle.codec.proofs.writer.values_first.Kinds as values-first-kinds
 use Rattle.codec.proofs.writer.put_number.Reads as put-number
@@ -88,9 +88,9 @@ pub read-text-one : (κs : Lfts 1) (a : Dens κs read-text-kinds.ps) (x y : resT
     → read-text.Post κs a x s → read-text.Post κs a y t → x ≡ y
 read-text-one κs a x y s t p q = text-fixed (now (a .0)) (a .1 .0) x y (p .0 ∙ sym (q .0)) (p .1) (q .1)
 
-pub room-for-one : (κs : Lfts 0) (a : Dens κs room-for-kinds.ps) (x y : resT room-for-kinds.r κs .Denot) (s t : AtExit (endedOf 0 room-for-kinds.ps room-for-kinds.r) κs)
-    → room-for.Post κs a x s → room-for.Post κs a y t → x ≡ y
-room-for-one κs a x y s t p q = written-fixed x y _ p q
+pub bit-of-one : (κs : Lfts 0) (a : Dens κs bit-of-kinds.ps) (x y : resT bit-of-kinds.r κs .Denot) (s t : AtExit (endedOf 0 bit-of-kinds.ps bit-of-kinds.r) κs)
+    → bit-of.Post κs a x s → bit-of.Post κs a y t → x ≡ y
+bit-of-one κs a x y s t p q = p ∙ sym q
 
 pub values-first-one : (κs : Lfts 0) (a : Dens κs values-first-kinds.ps) (x y : resT values-first-kinds.r κs .Denot) (s t : AtExit (endedOf 0 values-first-kinds.ps values-first-kinds.r) κs)
     → values-first.Post κs a x s → values-first.Post κs a y t → x ≡ y

@@ -1,13 +1,13 @@
 // Items put into a lent buffer.
 ghost use mathlib.Core.Path.{_≡_};
 ghost use Prim.Native.Nat.{_≤_, _+_};
-ghost use mathlib.Core.List.{_++_, _∷_, []};
+ghost use mathlib.Core.List.{_∷_, []};
 ghost use lib.ListN.{length};
 ghost use lib.Seq.{sets};
 ghost use Rattle.codec.specs.Pick.{pick};
 ghost use Rattle.codec.specs.Digits.{bytesOf};
 ghost use Rattle.codec.specs.Writing.{stopRoom, counted, putAt};
-ghost use Rattle.codec.specs.Told.{widthOf, toldWritten, Writes};
+ghost use Rattle.codec.specs.Told.{widthOf, bit, toldWritten, Writes};
 use crate::reader::Width;
 use crate::reader::beyond;
 use crate::reader::bytes_of;
@@ -20,7 +20,7 @@ pub enum Written {
 }
 
 // Whether a room has room for n bytes.
-pub fn room_for(room: usize, n: usize) -> Written
+fn room_for(room: usize, n: usize) -> Written
     ensures { λ r. ⌜ toldWritten r ≡ counted (stopRoom room n) n ⌝ }
 {
     if room < n {
@@ -39,6 +39,13 @@ pub fn values_first(ok: bool, room: usize, n: usize) -> Written
     } else {
         Written::Refused(Refusal::InvalidPayload)
     }
+}
+
+// A flag's number.
+pub fn bit_of(b: bool) -> u8
+    ensures { λ r. ⌜ r ≡ bit b ⌝ }
+{
+    if b { 1 } else { 0 }
 }
 
 fn put_back(s: &mut [u8], at: usize, w: usize, v: u32)

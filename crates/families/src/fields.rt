@@ -13,7 +13,7 @@ ghost use Rattle.codec.specs.Refusals.{outcomeNumber, numberIn};
 ghost use Rattle.codec.specs.Told.{bit};
 ghost use Rattle.families.specs.Text.{bytesIn};
 ghost use Rattle.families.specs.Popup.{headItems, moreItems, valuesItems, writePopup};
-ghost use Rattle.families.specs.Fields.{moreSays, valuesSays, popupSays, madeMore, madeValues, madeTexts, stopPopup, popupOf, construct};
+ghost use Rattle.families.specs.Fields.{moreSays, valuesSays, popupSays, madeMore, madeValues, madeTexts, construct};
 ghost use Rattle.families.specs.Sizes.{over, stopSizes, moreSize};
 use crate::screen::ScreenAdditionalData;
 use crate::screen::ScreenPopup;
@@ -146,12 +146,6 @@ pub(crate) fn judge(f: ScreenPopupFields) -> Outcome
     Outcome::Refused(Refusal::RecordNotMade)
 }
 
-fn flag_byte(b: bool) -> u8
-    ensures { λ r. ⌜ r ≡ bit b ⌝ }
-{
-    if b { 1 } else { 0 }
-}
-
 // Puts a text and its 00; the place after it.
 fn put_text(s: &mut [u8], at: usize, t: CommandString) -> usize
     requires { ⌜ (at + t .len < length (now s)) × (t .len ≤ 51) ⌝ }
@@ -168,7 +162,7 @@ fn put_head(s: &mut [u8], h: CommandString, i: CommandString, time: u8, close: b
     requires { ⌜ ((h .len ≤ 51) × (i .len ≤ 51)) × (h .len + i .len + 4 ≤ length (now s)) ⌝ }
     ensures { λ r. ⌜ (now (s .exit) ≡ sets (now (s .entry)) 0 (writeItems headItems (bytesIn h ∷ bytesIn i ∷ (time ∷ []) ∷ (bit close ∷ []) ∷ []))) × (r ≡ h .len + i .len + 4) ⌝ }
 {
-    let c = flag_byte(close);
+    let c = codec::writer::bit_of(close);
     let a = put_text(s, 0, h);
     let b = put_text(s, a, i);
     s[b] = time;

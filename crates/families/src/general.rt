@@ -73,22 +73,16 @@ fn write_proposal(port: u8, baud: u32, body: &mut [u8]) -> Written
     Written::Count(6)
 }
 
-fn bit_of(b: bool) -> u32
-    ensures { λ r. ⌜ r ≡ bit b ⌝ }
-{
-    if b { 1 } else { 0 }
-}
-
 fn write_response(port: u8, accepted: bool, body: &mut [u8]) -> Written
     ensures { λ r. ⌜ Writes (stopInOrder generalRows (length (now (body .entry))) (said 0x71 ((port ∷ []) ∷ (bit accepted ∷ []) ∷ []))) (writeBody generalRows (said 0x71 ((port ∷ []) ∷ (bit accepted ∷ []) ∷ []))) r (now (body .entry)) (now (body .exit)) ⌝ }
 {
     if body.len() < 3 {
         return Written::Refused(Refusal::BufferOverflow);
     }
-    let a = bit_of(accepted);
+    let a = codec::writer::bit_of(accepted);
     codec::writer::put_number(body, 0, Width::One, 0x71);
     codec::writer::put_number(body, 1, Width::One, port as u32);
-    codec::writer::put_number(body, 2, Width::One, a);
+    codec::writer::put_number(body, 2, Width::One, a as u32);
     Written::Count(3)
 }
 

@@ -6,7 +6,7 @@ ghost use lib.ListN.{length, drop, getD};
 ghost use Rattle.codec.specs.Sheet.{byte};
 ghost use Rattle.codec.specs.Reading.{readItems};
 ghost use Rattle.families.specs.Popup.{headItems, moreItems, valuesItems, kindOf, remains, readPopup};
-ghost use Rattle.families.specs.Places.{none, noMore, toldHead, headIn, toldFour, fourIn, toldMore, moreIn, toldValues, valuesIn, toldPlaces, placesIn};
+ghost use Rattle.families.specs.Places.{noMore, toldHead, headIn, toldFour, fourIn, toldMore, moreIn, toldValues, valuesIn, toldPlaces, placesIn};
 use crate::screen::ScreenAdditionalData;
 use codec::reader::FlagRead;
 use codec::reader::NumberRead;

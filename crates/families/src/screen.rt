@@ -147,22 +147,16 @@ pub fn read(body: &[u8]) -> ScreenAnswer
     }
 }
 
-fn bit_of(b: bool) -> u32
-    ensures { λ r. ⌜ r ≡ bit b ⌝ }
-{
-    if b { 1 } else { 0 }
-}
-
 fn write_return(value: u8, response: bool, body: &mut [u8]) -> Written
     ensures { λ r. ⌜ Writes (stopRoom (length (now (body .entry))) 3) (writeBody screenRows (said 0x02 ((value ∷ []) ∷ (bit response ∷ []) ∷ []))) r (now (body .entry)) (now (body .exit)) ⌝ }
 {
     if body.len() < 3 {
         return Written::Refused(Refusal::BufferOverflow);
     }
-    let b = bit_of(response);
+    let b = codec::writer::bit_of(response);
     codec::writer::put_number(body, 0, Width::One, 0x02);
     codec::writer::put_number(body, 1, Width::One, value as u32);
-    codec::writer::put_number(body, 2, Width::One, b);
+    codec::writer::put_number(body, 2, Width::One, b as u32);
     Written::Count(3)
 }
 

@@ -13,8 +13,8 @@ use borrow.Author.Needs.{needs}
 use Rattle.families.proofs.fields.put_head.Statement.{statement}
 use Rattle.families.proofs.fields.put_head.Tie as tie
 
-flag-byte-requires : tie.Need-flag-byte-requires
-flag-byte-requires c κs = search needs
+bit-of-requires : tie.Need-bit-of-requires
+bit-of-requires c κs = search needs
 
 put-text-requires : tie.Need-put-text-requires
 put-text-requires c κs = search needs
@@ -38,13 +38,13 @@ add-result c = search needs
 
 same-length : tie.Need-same-length
 same-length c = kept (now (c .before .before .before .before .before .before .before .before .before .before .args .s)) (writeItems headItems (bytesIn (c .before .before .before .before .before .before .before .before .before .before .args .h) ∷ bytesIn (c .before .before .before .before .before .before .before .before .before .before .args .i) ∷ (c .before .before .before .before .before .before .before .before .before .before .args .time ∷ []) ∷ (bit (c .before .before .before .before .before .before .before .before .before .before .args .close) ∷ []) ∷ [])) 0
-    (head-put (now (c .before .before .before .before .before .before .before .before .before .before .args .s)) (c .before .before .before .before .before .before .put-text .last .0) (c .before .before .put-text2 .last .0) (c .before .before .before .before .before .before .before .before .before .before .args .h) (c .before .before .before .before .before .before .before .before .before .before .args .i) (c .before .before .before .before .before .before .before .before .before .before .args .time) (c .before .before .before .before .before .before .put-text .result) (c .before .before .put-text2 .result) (c .before .before .before .before .before .before .before .before .flag-byte .result) (c .before .before .before .before .before .before .before .before .before .before .args .close)
-    (search needs, search needs) (c .before .before .before .before .before .before .before .before .before .before .pre .0) (search needs) (c .before .before .before .before .before .before .before .before .flag-byte .ensures) (c .before .before .before .before .before .before .put-text .ensures .0) (c .before .before .before .before .before .before .put-text .ensures .1) (c .before .before .put-text2 .ensures .0) (c .before .before .put-text2 .ensures .1))
+    (head-put (now (c .before .before .before .before .before .before .before .before .before .before .args .s)) (c .before .before .before .before .before .before .put-text .last .0) (c .before .before .put-text2 .last .0) (c .before .before .before .before .before .before .before .before .before .before .args .h) (c .before .before .before .before .before .before .before .before .before .before .args .i) (c .before .before .before .before .before .before .before .before .before .before .args .time) (c .before .before .before .before .before .before .put-text .result) (c .before .before .put-text2 .result) (c .before .before .before .before .before .before .before .before .bit-of .result) (c .before .before .before .before .before .before .before .before .before .before .args .close)
+    (search needs, search needs) (c .before .before .before .before .before .before .before .before .before .before .pre .0) (search needs) (c .before .before .before .before .before .before .before .before .bit-of .ensures) (c .before .before .before .before .before .before .put-text .ensures .0) (c .before .before .before .before .before .before .put-text .ensures .1) (c .before .before .put-text2 .ensures .0) (c .before .before .put-text2 .ensures .1))
 
 returns : tie.Need-returns
 returns c = (
-  head-put (now (c .before .before .before .before .before .before .before .before .before .before .args .s)) (c .before .before .before .before .before .before .put-text .last .0) (c .before .before .put-text2 .last .0) (c .before .before .before .before .before .before .before .before .before .before .args .h) (c .before .before .before .before .before .before .before .before .before .before .args .i) (c .before .before .before .before .before .before .before .before .before .before .args .time) (c .before .before .before .before .before .before .put-text .result) (c .before .before .put-text2 .result) (c .before .before .before .before .before .before .before .before .flag-byte .result) (c .before .before .before .before .before .before .before .before .before .before .args .close)
-      (search needs, search needs) (c .before .before .before .before .before .before .before .before .before .before .pre .0) (search needs) (c .before .before .before .before .before .before .before .before .flag-byte .ensures) (c .before .before .before .before .before .before .put-text .ensures .0) (c .before .before .before .before .before .before .put-text .ensures .1) (c .before .before .put-text2 .ensures .0) (c .before .before .put-text2 .ensures .1),
+  head-put (now (c .before .before .before .before .before .before .before .before .before .before .args .s)) (c .before .before .before .before .before .before .put-text .last .0) (c .before .before .put-text2 .last .0) (c .before .before .before .before .before .before .before .before .before .before .args .h) (c .before .before .before .before .before .before .before .before .before .before .args .i) (c .before .before .before .before .before .before .before .before .before .before .args .time) (c .before .before .before .before .before .before .put-text .result) (c .before .before .put-text2 .result) (c .before .before .before .before .before .before .before .before .bit-of .result) (c .before .before .before .before .before .before .before .before .before .before .args .close)
+      (search needs, search needs) (c .before .before .before .before .before .before .before .before .before .before .pre .0) (search needs) (c .before .before .before .before .before .before .before .before .bit-of .ensures) (c .before .before .before .before .before .before .put-text .ensures .0) (c .before .before .before .before .before .before .put-text .ensures .1) (c .before .before .put-text2 .ensures .0) (c .before .before .put-text2 .ensures .1),
   omega (arith, c .before .before .before .before .before .before .put-text .ensures .1, c .before .before .put-text2 .ensures .1),
 )
 
@@ -52,7 +52,7 @@ pub put-head-spec : {M : Type 1} → statement M
 put-head-spec =
     tie.close
     (tie.spec
-    flag-byte-requires
+    bit-of-requires
     put-text-requires
     put-text-requires-2
     slice-write-s

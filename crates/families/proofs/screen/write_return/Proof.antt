@@ -18,6 +18,9 @@ put-number-requires c κs = search needs
 put-number-requires-2 : tie.Need-put-number-requires-2
 put-number-requires-2 c κs = search needs
 
+cast-put-number : tie.Need-cast-put-number
+cast-put-number c = search needs
+
 put-number-requires-3 : tie.Need-put-number-requires-3
 put-number-requires-3 c κs = search needs
 
@@ -35,6 +38,7 @@ write-return-spec =
     bit-of-requires
     put-number-requires
     put-number-requires-2
+    cast-put-number
     put-number-requires-3
     same-length
     returns-2)
