@@ -1,4 +1,4 @@
-//! Links target/staticlib/libcrsf.a, or the archive in the folder that CRSF_ARCHIVE names.
+//! Links libcrsf.a and libbodies.a from target/staticlib, or from the folder that CRSF_ARCHIVE names.
 use std::env;
 use std::path::PathBuf;
 
@@ -10,14 +10,16 @@ fn main() {
             PathBuf::from(env::var_os("CARGO_MANIFEST_DIR").unwrap()).join("../target/staticlib")
         }
     };
-    let archive = folder.join("libcrsf.a");
-    if !archive.is_file() {
-        panic!(
-            "{} is missing: run `rt staticlib crsf` at the project's root.",
-            archive.display()
-        );
-    }
-    println!("cargo:rerun-if-changed={}", archive.display());
     println!("cargo:rustc-link-search=native={}", folder.display());
-    println!("cargo:rustc-link-lib=static=crsf");
+    for name in ["crsf", "bodies"] {
+        let archive = folder.join(format!("lib{name}.a"));
+        if !archive.is_file() {
+            panic!(
+                "{} is missing: run `rt staticlib {name}` at the project's root.",
+                archive.display()
+            );
+        }
+        println!("cargo:rerun-if-changed={}", archive.display());
+        println!("cargo:rustc-link-lib=static={name}");
+    }
 }

@@ -1,4 +1,8 @@
 //! What the comparison, the maker of stored answers and the benchmark share: both sides of each function, and random input.
+pub mod again;
+pub mod answers;
+pub mod cases;
+pub mod records;
 
 /// Ours, through the exported C functions of include/crsf.h.
 pub mod ours {
@@ -114,6 +118,38 @@ pub fn compare_check(ours: impl Fn(&[u8], u8) -> u8, random: u64, seed: u64) -> 
             theirs::check_in_two(first, second),
             || format!("{first:02X?}, then {second:02X?}"),
         );
+    }
+    outcome
+}
+
+/// A body read and written again by both: every body of up to two bytes into 60 bytes, and `random` others into any room.
+///
+/// The answer word is compared, and on success the whole buffer; refused, ours leaves every byte as it was.
+pub fn compare_bodies(row: &again::Row, ours: impl Fn(&[u8], &mut [u8]) -> u32, random: u64, seed: u64) -> Outcome {
+    const LENT: u8 = 0xA5;
+    let mut outcome = Outcome::default();
+    let mut both = |body: &[u8], room: usize| {
+        let (mut left, mut right) = (vec![LENT; room], vec![LENT; room]);
+        let word = ours(body, &mut left);
+        let expected = (row.rust)(body, &mut right);
+        if expected & 0xFF != 0 {
+            right.fill(LENT);
+        }
+        outcome.note((word, left), (expected, right), || {
+            format!("{body:02X?} into {room} bytes")
+        });
+    };
+    both(&[], 60);
+    for a in 0..=255 {
+        both(&[a], 60);
+        for b in 0..=255 {
+            both(&[a, b], 60);
+        }
+    }
+    let mut source = Random(seed);
+    for _ in 0..random {
+        let body = cases::body(&mut source, row.id);
+        both(&body, source.below(71));
     }
     outcome
 }

@@ -1,5 +1,6 @@
-//! The comparison tells a wrong check from a right one: each of these is wrong in one place only.
-use compare::{compare_check, Outcome};
+//! The comparison tells a wrong check from a right one, and a wrong body: each of these is wrong in one place only.
+use compare::again::{Row, ROWS};
+use compare::{compare_bodies, compare_check, Outcome};
 
 fn by_bit(poly: u8, start: u8, bytes: &[u8]) -> u8 {
     bytes.iter().fold(start, |value, byte| {
@@ -61,4 +62,79 @@ fn one_wrong_entry_of_256_is_seen() {
     });
     assert_ne!(outcome.differing, 0);
     assert!(outcome.first.is_some());
+}
+
+/// The Rust's own function as our side, but for what `wrong` does to its answer and to the buffer; refused, it leaves the buffer alone.
+fn bodies(row: &Row, wrong: impl Fn(u32, &mut [u8]) -> u32) -> Outcome {
+    compare_bodies(
+        row,
+        |body, out| {
+            let lent = out.to_vec();
+            let word = (row.rust)(body, out);
+            if word & 0xFF != 0 {
+                out.copy_from_slice(&lent);
+            }
+            wrong(word, out)
+        },
+        2000,
+        1,
+    )
+}
+
+#[test]
+fn right_bodies_pass() {
+    for row in ROWS {
+        let outcome = bodies(row, |word, _| word);
+        assert_eq!(outcome.differing, 0, "{}", row.family);
+        assert_eq!(outcome.cases, 65_793 + 2000);
+    }
+}
+
+#[test]
+fn another_refusal_is_seen() {
+    for row in ROWS {
+        for number in 1..=2 {
+            let outcome = bodies(row, |word, _| if word == number { 3 } else { word });
+            assert_ne!(outcome.differing, 0, "{} {number}", row.family);
+        }
+        let outcome = bodies(row, |word, _| if word == 3 { 2 } else { word });
+        assert_ne!(outcome.differing, 0, "{}", row.family);
+    }
+}
+
+#[test]
+fn another_count_or_byte_is_seen() {
+    for row in ROWS {
+        let counted = bodies(row, |word, _| if word > 255 { word + 256 } else { word });
+        assert_ne!(counted.differing, 0, "{}", row.family);
+        let last = bodies(row, |word, out| {
+            if word > 255 {
+                out[(word >> 8) as usize - 1] ^= 1;
+            }
+            word
+        });
+        assert_ne!(last.differing, 0, "{}", row.family);
+    }
+}
+
+#[test]
+fn a_byte_behind_the_body_or_left_by_a_refusal_is_seen() {
+    for row in ROWS {
+        let behind = bodies(row, |word, out| {
+            if let Some(byte) = out.get_mut((word >> 8) as usize) {
+                if word > 255 {
+                    *byte = 0;
+                }
+            }
+            word
+        });
+        assert_ne!(behind.differing, 0, "{}", row.family);
+        let left = bodies(row, |word, out| {
+            if word < 256 && !out.is_empty() {
+                out[0] = 0;
+            }
+            word
+        });
+        assert_ne!(left.differing, 0, "{}", row.family);
+    }
 }

@@ -3,7 +3,7 @@
 use std::hint::black_box;
 use std::time::Instant;
 
-use compare::{ours, theirs};
+use compare::{again, ours, theirs};
 
 fn repeated(count: u64, mut call: impl FnMut()) {
     for _ in 0..count {
@@ -25,11 +25,29 @@ fn check(side: &str, count: u64) {
     }
 }
 
+/// A body read, and written again.
+fn body(family: &str, side: &str, count: u64) {
+    let row = again::ROWS
+        .iter()
+        .find(|row| row.family == family)
+        .expect("a family");
+    let call = match side {
+        "ours" => row.ours,
+        "rust" => row.rust,
+        _ => panic!("ours or rust"),
+    };
+    let mut out = [0; 56];
+    repeated(count, || {
+        black_box(call(black_box(row.body), black_box(&mut out)));
+    });
+    assert_eq!(&out[..row.body.len()], row.body, "was not written again");
+}
+
 fn main() {
     let words: Vec<String> = std::env::args().skip(1).collect();
-    let work = match words[0].as_str() {
-        "check" => check,
-        _ => panic!("check"),
+    let work = |side: &str, count: u64| match words[0].as_str() {
+        "check" => check(side, count),
+        family => body(family, side, count),
     };
     let side = &words[1];
     match words.get(2) {

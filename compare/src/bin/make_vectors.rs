@@ -1,44 +1,22 @@
 //! make_vectors [--check]: writes the Rust's answers to crates/vectors/stdin, or says whether they are what stands there.
-//!
-//! A record: kind (1), length of the input (2, big-endian), input, length of the answer (2), answer.
+//! make_vectors --random ROUNDS [SEED]: writes other ones, chosen at random, to standard output.
+use std::io::{self, BufWriter, Write};
 use std::path::Path;
 use std::process::ExitCode;
 use std::{env, fs};
 
-use compare::{theirs, Random};
+use compare::records::{Records, KINDS};
+use compare::{answers, cases, Random};
 use uf_crsf::packets::{
     CommandAck, CommandPayload, CommandString, CrossfireCommand, CrsfPacket, DirectCommands,
     FcCommand, FlowControlCommand, GeneralCommand, LedColor, LedCommand, OsdCommand, ScreenCommand,
     ScreenPopup, ScreenPopupFields, VtxCommand,
 };
 
-const CHECK: u8 = 1;
-const PAYLOAD_CHECK: u8 = 2;
 const SEED: u64 = 0x0132;
 
-#[derive(Default)]
-struct List {
-    bytes: Vec<u8>,
-    records: [usize; 3],
-}
-
-impl List {
-    fn part(&mut self, part: &[u8]) {
-        self.bytes
-            .extend(u16::try_from(part.len()).unwrap().to_be_bytes());
-        self.bytes.extend(part);
-    }
-
-    fn record(&mut self, kind: u8, input: &[u8], answer: &[u8]) {
-        self.bytes.push(kind);
-        self.part(input);
-        self.part(answer);
-        self.records[usize::from(kind)] += 1;
-    }
-}
-
 /// Of each length 0 to 60: zeros, ones, a count, a last 1 alone, and four at random.
-fn checks(list: &mut List, random: &mut Random) {
+fn checks(list: &mut Records<Vec<u8>>, random: &mut Random) -> io::Result<()> {
     for len in 0..=60 {
         let mut last_one = vec![0; len];
         if let Some(last) = last_one.last_mut() {
@@ -52,25 +30,24 @@ fn checks(list: &mut List, random: &mut Random) {
         ];
         messages.extend((0..4).map(|_| random.bytes(len)));
         for message in messages {
-            list.record(CHECK, &message, &[theirs::check(&message)]);
+            list.check(&message)?;
         }
     }
+    Ok(())
 }
 
 /// Of each length 1 to 60 two payloads at random, with any last byte: the check that the Rust's reader would want there.
-fn payload_checks(list: &mut List, random: &mut Random) {
+fn payload_checks(list: &mut Records<Vec<u8>>, random: &mut Random) -> io::Result<()> {
     for len in 1..=60 {
         for _ in 0..2 {
-            let payload = random.bytes(len);
-            let check =
-                theirs::check_in_two(&[DirectCommands::PACKET_TYPE as u8], &payload[..len - 1]);
-            list.record(PAYLOAD_CHECK, &payload, &[check]);
+            list.payload_check(&random.bytes(len))?;
         }
     }
+    Ok(())
 }
 
 /// A command of each family, as the Rust writes it: its last byte is the check.
-fn written(list: &mut List) {
+fn written(list: &mut Records<Vec<u8>>) -> io::Result<()> {
     let color = LedColor {
         hue: 359,
         saturation: 100,
@@ -112,27 +89,76 @@ fn written(list: &mut List) {
         }
         .to_bytes(&mut buffer)
         .unwrap();
-        list.record(PAYLOAD_CHECK, &buffer[..len], &buffer[len - 1..len]);
+        list.payload_check(&buffer[..len])?;
     }
+    Ok(())
+}
+
+/// Of each family every body of one byte and the empty one, every start of some bodies, and a command into every room.
+fn bodies(list: &mut Records<Vec<u8>>, random: &mut Random) -> io::Result<()> {
+    for family in answers::FAMILIES {
+        list.read(family, &[])?;
+        for sub in 0..=255 {
+            list.read(family, &[sub])?;
+        }
+        for _ in 0..8 {
+            let body = cases::body(random, family);
+            for len in 0..=body.len() {
+                list.read(family, &body[..len])?;
+            }
+        }
+        for _ in 0..4 {
+            let image = cases::image(random, family);
+            for room in 0..=20 {
+                list.write(family, &image, room)?;
+            }
+        }
+    }
+    for _ in 0..100 {
+        list.random(random)?;
+    }
+    Ok(())
+}
+
+fn stored() -> io::Result<Records<Vec<u8>>> {
+    let mut list = Records::new(Vec::new());
+    let mut random = Random(SEED);
+    checks(&mut list, &mut random)?;
+    payload_checks(&mut list, &mut random)?;
+    written(&mut list)?;
+    bodies(&mut list, &mut random)?;
+    Ok(list)
+}
+
+fn at_random(rounds: u64, seed: u64) -> io::Result<()> {
+    let mut list = Records::new(BufWriter::new(io::stdout().lock()));
+    let mut random = Random(seed);
+    for _ in 0..rounds {
+        list.random(&mut random)?;
+    }
+    list.out.flush()
 }
 
 fn main() -> ExitCode {
-    let mut list = List::default();
-    let mut random = Random(SEED);
-    checks(&mut list, &mut random);
-    payload_checks(&mut list, &mut random);
-    written(&mut list);
-
+    let words: Vec<String> = env::args().skip(1).collect();
+    let number = |at: usize| words.get(at).map(|word| word.parse().expect("a number"));
+    if words.first().is_some_and(|word| word == "--random") {
+        at_random(number(1).expect("rounds"), number(2).unwrap_or(SEED)).unwrap();
+        return ExitCode::SUCCESS;
+    }
+    let list = stored().unwrap();
     let path = Path::new(env!("CARGO_MANIFEST_DIR")).join("../crates/vectors/stdin");
-    let [_, checks, payload_checks] = list.records;
-    println!("stored answers: {checks} of check, {payload_checks} of payload check");
-    if env::args().any(|word| word == "--check") {
-        if fs::read(&path).ok().as_deref() != Some(&list.bytes) {
+    let counts: Vec<String> = (1..KINDS.len())
+        .map(|kind| format!("{} of {}", list.count[kind], KINDS[kind]))
+        .collect();
+    println!("stored answers: {}", counts.join(", "));
+    if words.iter().any(|word| word == "--check") {
+        if fs::read(&path).ok().as_deref() != Some(&list.out) {
             println!("crates/vectors/stdin is not what the Rust answers");
             return ExitCode::FAILURE;
         }
     } else {
-        fs::write(&path, &list.bytes).unwrap();
+        fs::write(&path, &list.out).unwrap();
     }
     ExitCode::SUCCESS
 }

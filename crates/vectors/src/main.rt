@@ -1,6 +1,10 @@
 // Replays the stored answers of the Rust from standard input. README.md in this crate's folder says what a record is.
 ghost use Prim.Native.Nat.{_<_};
 
+mod bodies;
+mod made;
+mod plain;
+
 enum Part {
     Bytes(usize),
     Cut,
@@ -13,9 +17,9 @@ enum Record {
     End,
 }
 
+// Of each kind, by its number; what is no kind counts as 0.
 struct Tally {
-    check: u64,
-    payload_check: u64,
+    kinds: [u64; 9],
     differ: u64,
     cut: u64,
 }
@@ -24,11 +28,17 @@ const CHECK: u8 = 1;
 
 const PAYLOAD_CHECK: u8 = 2;
 
-fn wide(x: u8) -> usize
-    ensures { λ r. ⌜ r < 256 ⌝ }
-{
-    x as usize
-}
+const READ: u8 = 3;
+
+const WRITE: u8 = 4;
+
+const TEXT: u8 = 5;
+
+const ACK: u8 = 6;
+
+const POPUP: u8 = 7;
+
+const INSPECT: u8 = 8;
 
 // A length of two bytes, then that many bytes, which go to the start of `space`.
 fn read_part(space: &mut [u8]) -> Part {
@@ -37,7 +47,7 @@ fn read_part(space: &mut [u8]) -> Part {
     if got < 2 {
         return Part::Cut;
     }
-    let len = wide(head[0]) * 256 + wide(head[1]);
+    let len = plain::wide(head[0]) * 256 + plain::wide(head[1]);
     if space.len() < len {
         return Part::Cut;
     }
@@ -57,6 +67,12 @@ fn agrees(kind: u8, input: &[u8], stored: &[u8]) -> bool {
     match kind {
         CHECK => is_byte(stored, crc::check(input, 0)),
         PAYLOAD_CHECK => is_byte(stored, crc::payload_check(input)),
+        READ => bodies::read_agrees(input, stored),
+        WRITE => bodies::write_agrees(input, stored),
+        TEXT => made::text_agrees(input, stored),
+        ACK => made::ack_agrees(input, stored),
+        POPUP => made::popup_agrees(input, stored),
+        INSPECT => made::inspect_agrees(input, stored),
         _ => false,
     }
 }
@@ -101,15 +117,18 @@ fn one_more(n: u64) -> u64 {
     std::num::wrapping_add_u64(n, 1)
 }
 
+fn place_of(kind: u8) -> usize
+    ensures { λ r. ⌜ r < 9 ⌝ }
+{
+    if kind < 9 { kind as usize } else { 0 }
+}
+
 fn counted(t: Tally, r: Record) -> Tally {
     let mut out = t;
     match r {
         Record::Agrees(kind) => {
-            if kind == CHECK {
-                out.check = one_more(t.check);
-            } else {
-                out.payload_check = one_more(t.payload_check);
-            }
+            let i = place_of(kind);
+            out.kinds[i] = one_more(t.kinds[i]);
         }
         Record::Differs => {
             out.differ = one_more(t.differ);
@@ -152,8 +171,7 @@ fn name_differing(r: Record, n: u64) {
 // A proved loop has to end, and nothing says that the input does: no list has as many records as this loop has turns.
 fn replay() -> Tally {
     let mut tally = Tally {
-        check: 0,
-        payload_check: 0,
+        kinds: [0u64; 9],
         differ: 0,
         cut: 0,
     };
@@ -170,8 +188,15 @@ fn replay() -> Tally {
 
 fn main() {
     let tally = replay();
-    print_line(b"check ", tally.check);
-    print_line(b"payload check ", tally.payload_check);
+    let kinds = tally.kinds;
+    print_line(b"check ", kinds[1]);
+    print_line(b"payload check ", kinds[2]);
+    print_line(b"read ", kinds[3]);
+    print_line(b"write ", kinds[4]);
+    print_line(b"text ", kinds[5]);
+    print_line(b"ack ", kinds[6]);
+    print_line(b"popup ", kinds[7]);
+    print_line(b"inspect ", kinds[8]);
     print_line(b"differ ", tally.differ);
     print_line(b"cut ", tally.cut);
 }

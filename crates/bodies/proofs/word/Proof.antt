@@ -1,35 +1,26 @@
+-- `word` meets its contract. Assumes nothing.
 use borrow.Author.Needs.{needs}
 use Rattle.bodies.proofs.word.Statement.{statement}
 use Rattle.bodies.proofs.word.Tie as tie
-use Rattle.bodies.proofs.word.Reads as reads
-use Rattle.bodies.proofs.word.Lts as lts
-use Rattle.bodies.proofs.refused.Reads as refused-reads
 
--- src/lib.rt:27:24
 enum-known-w : tie.Need-enum-known-w
 enum-known-w c = search needs
 
--- src/lib.rt:27:30
 cast-result : tie.Need-cast-result
 cast-result c = search needs
 
--- src/lib.rt:27:30
 mul-result : tie.Need-mul-result
 mul-result c = search needs
 
--- src/lib.rt:28:26
 enum-known-w-2 : tie.Need-enum-known-w-2
 enum-known-w-2 c = search needs
 
--- src/lib.rt:28:32
 refused-requires : tie.Need-refused-requires
 refused-requires c κs = search needs
 
--- src/lib.rt:23:1
 returns : tie.Need-returns
 returns c = rw (c .before .w .given .1)
 
--- src/lib.rt:23:1
 returns-2 : tie.Need-returns-2
 returns-2 c = search needs
 
