@@ -2,12 +2,13 @@
 ghost use mathlib.Core.Path.{_≡_};
 ghost use lib.ListN.{length};
 ghost use Rattle.codec.specs.Reading.{readBody};
-ghost use Rattle.codec.specs.Writing.{writeItems, writeBody, stopInOrder, stopValuesFirst};
+ghost use Rattle.codec.specs.Writing.{writeItems, writeBody, stopInOrder, stopValuesFirst, stopRoom};
 ghost use Rattle.codec.specs.Refusals.{refusalNumber};
 ghost use Rattle.codec.specs.Told.{toldWritten};
 ghost use Rattle.families.specs.Sheets.{fcRows, osdRows, vtxRows, ledRows, generalRows, crossfireRows, flowRows};
 ghost use Rattle.families.specs.Ack.{ackItems, readAck, stopAck};
-ghost use Rattle.bodies.specs.Again.{answerWord, Again};
+ghost use Rattle.families.specs.Screen.{readScreen};
+ghost use Rattle.bodies.specs.Again.{answerWord, Again, saidBody};
 use codec::refusal::Outcome;
 use codec::refusal::Refusal;
 use codec::writer::Written;
@@ -114,6 +115,21 @@ pub extern "C" fn body_ack(body: &[u8], out: &mut [u8]) -> u32
     let bytes = read.bytes;
     match outcome {
         Outcome::Accepted => word(families::ack::write_to(ack, &bytes, read.len, out)),
+        Outcome::Refused(r) => refused(r),
+    }
+}
+
+#[no_mangle]
+pub extern "C" fn body_screen(body: &[u8], out: &mut [u8]) -> u32
+    ensures { λ r. ⌜ Again (readScreen (now (body .entry))) (λ q. stopRoom (length (now (out .entry))) (length (saidBody q))) saidBody r (now (out .entry)) (now (out .exit)) ⌝ }
+{
+    let read = families::screen::read(body);
+    let outcome = read.outcome;
+    let command = read.command;
+    let popup = read.popup;
+    let bytes = popup.bytes;
+    match outcome {
+        Outcome::Accepted => word(families::screen::write_to(command, &bytes, popup.len, out)),
         Outcome::Refused(r) => refused(r),
     }
 }

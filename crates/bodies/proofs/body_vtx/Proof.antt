@@ -1,6 +1,7 @@
 -- `body_vtx` meets its contract. Assumes nothing.
-use mathlib.Core.Path.{refl, ap, _∙_}
-use Rattle.bodies.specs.Again.{answerWord}
+use Rattle.codec.specs.Writing.{writeBody, stopValuesFirst}
+use Rattle.families.specs.Sheets.{vtxRows}
+use Rattle.bodies.proofs.Laws.{again-got, again-refused}
 use borrow.Author.Needs.{needs}
 use Rattle.bodies.proofs.body_vtx.Statement.{statement}
 use Rattle.bodies.proofs.body_vtx.Tie as tie
@@ -27,10 +28,10 @@ same-length : tie.Need-same-length
 same-length c = search needs
 
 returns : tie.Need-returns
-returns c = rw (← (c .before .before .before .before .before .before .before .before .read .ensures), c .before .before .before .before .before .before .c .given .1) (c .word .ensures ∙ ap answerWord (c .before .before .before .write-to .ensures .0), c .before .before .before .write-to .ensures .1)
+returns c = again-got (stopValuesFirst vtxRows _) (writeBody vtxRows) (c .before .before .before .write-to .result) _ (rw (c .before .before .before .before .before .before .c .given .1) at (c .before .before .before .before .before .before .before .before .read .ensures)) (c .before .before .before .write-to .ensures) (c .word .ensures)
 
 returns-2 : tie.Need-returns-2
-returns-2 c = rw (← (c .before .before .before .before .read .ensures), c .before .before .r .given .1) (c .refused .ensures, refl)
+returns-2 c = again-refused (stopValuesFirst vtxRows _) (writeBody vtxRows) (rw (c .before .before .r .given .1) at (c .before .before .before .before .read .ensures)) (c .refused .ensures)
 
 pub body-vtx-spec : {M : Type 1} → statement M
 body-vtx-spec =
