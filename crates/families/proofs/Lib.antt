@@ -20,3 +20,4 @@ pub mod ScreenLaws
 pub mod ScreenBack
 pub mod OneAnswerScreen
 pub mod FieldPlaces
+pub mod Answered
