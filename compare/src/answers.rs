@@ -18,7 +18,15 @@ pub const ACK: u8 = 0xFF;
 
 /// The nine families that are compared.
 pub const FAMILIES: [u8; 9] = [
-    FC, OSD, VTX, LED, GENERAL, CROSSFIRE, FLOW_CONTROL, SCREEN, ACK,
+    FC,
+    OSD,
+    VTX,
+    LED,
+    GENERAL,
+    CROSSFIRE,
+    FLOW_CONTROL,
+    SCREEN,
+    ACK,
 ];
 
 /// Document 01's number of a refusal.
@@ -196,11 +204,8 @@ fn ack_image(ack: &CommandAck) -> Image {
 /// The bytes that a popup stores, which it shows only when it is written.
 fn popup_bytes(popup: &ScreenPopup) -> Vec<u8> {
     let mut body = [0; 56];
-    let count = bodies::write_screen(
-        &ScreenCommand::PopupMessageStart(popup.clone()),
-        &mut body,
-    )
-    .unwrap();
+    let count =
+        bodies::write_screen(&ScreenCommand::PopupMessageStart(popup.clone()), &mut body).unwrap();
     body[1..count].to_vec()
 }
 

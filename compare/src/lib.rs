@@ -125,7 +125,12 @@ pub fn compare_check(ours: impl Fn(&[u8], u8) -> u8, random: u64, seed: u64) -> 
 /// A body read and written again by both: every body of up to two bytes into 60 bytes, and `random` others into any room.
 ///
 /// The answer word is compared, and on success the whole buffer; refused, ours leaves every byte as it was.
-pub fn compare_bodies(row: &again::Row, ours: impl Fn(&[u8], &mut [u8]) -> u32, random: u64, seed: u64) -> Outcome {
+pub fn compare_bodies(
+    row: &again::Row,
+    ours: impl Fn(&[u8], &mut [u8]) -> u32,
+    random: u64,
+    seed: u64,
+) -> Outcome {
     const LENT: u8 = 0xA5;
     let mut outcome = Outcome::default();
     let mut both = |body: &[u8], room: usize| {
