@@ -1,3 +1,4 @@
+use native.Mathlib.Omega.{arith}
 -- A selection judged: its label at its turn, then the room for all. Assumes nothing.
 use borrow.Author.Tests.{lt-ltb, le-ltb, eq-eqb, ne-eqb}
 use borrow.Author.Needs.{needs}
@@ -5,10 +6,10 @@ use Rattle.families.proofs.fields.judge_chosen.Statement.{statement}
 use Rattle.families.proofs.fields.judge_chosen.Tie as tie
 
 returns : tie.Need-returns
-returns c = rw (eq-eqb _ _ (c .before .if1 .taken), lt-ltb _ _ (c .if2 .taken))
+returns c = rw (eq-eqb (c .before .before .args .l) 0 (omega (arith, c .before .if1 .taken)), lt-ltb 55 (c .before .before .args .head) (omega (arith, c .if2 .taken)))
 
 returns-2 : tie.Need-returns-2
-returns-2 c = rw (eq-eqb _ _ (c .before .if1 .taken), le-ltb _ _ (c .if2 .left))
+returns-2 c = rw (eq-eqb (c .before .before .args .l) 0 (omega (arith, c .before .if1 .taken)), le-ltb 55 (c .before .before .args .head) (omega (arith, c .if2 .left)))
 
 add-room : tie.Need-add-room
 add-room c = search needs
@@ -26,7 +27,7 @@ room-requires : tie.Need-room-requires
 room-requires c κs = search needs
 
 returns-3 : tie.Need-returns-3
-returns-3 c = rw (ne-eqb _ _ (c .before .if1 .left)) (c .room .ensures)
+returns-3 c = rw (ne-eqb (c .before .before .args .l) 0 (λ e. omega (arith, e, c .before .if1 .left))) (c .room .ensures)
 
 pub judge-chosen-spec : {M : Type 1} → statement M
 judge-chosen-spec =

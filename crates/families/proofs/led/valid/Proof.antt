@@ -1,3 +1,4 @@
+use native.Mathlib.Omega.{arith}
 -- The colour tests are the sheet's ranges. Assumes nothing.
 use Rattle.codec.proofs.Items.{ltb-zero}
 use borrow.Author.Tests.{lt-ltb, le-ltb}
@@ -5,16 +6,16 @@ use Rattle.families.proofs.led.valid.Statement.{statement}
 use Rattle.families.proofs.led.valid.Tie as tie
 
 returns : tie.Need-returns
-returns c = simp (ltb-zero, lt-ltb _ _ (c .if1 .taken))
+returns c = simp (ltb-zero, lt-ltb 359 (c .before .before .args .c .hue) (omega (arith, c .if1 .taken)))
 
 returns-2 : tie.Need-returns-2
-returns-2 c = simp (ltb-zero, le-ltb _ _ (c .before .before .if1 .left), lt-ltb _ _ (c .if2 .taken))
+returns-2 c = simp (ltb-zero, le-ltb 359 (c .before .before .before .before .args .c .hue) (omega (arith, c .before .before .if1 .left)), lt-ltb 100 (c .before .before .before .before .args .c .saturation) (omega (arith, c .if2 .taken)))
 
 returns-3 : tie.Need-returns-3
-returns-3 c = simp (ltb-zero, le-ltb _ _ (c .before .before .before .before .if1 .left), le-ltb _ _ (c .before .before .if2 .left), lt-ltb _ _ (c .if3 .taken))
+returns-3 c = simp (ltb-zero, le-ltb 359 (c .before .before .before .before .before .before .args .c .hue) (omega (arith, c .before .before .before .before .if1 .left)), le-ltb 100 (c .before .before .before .before .before .before .args .c .saturation) (omega (arith, c .before .before .if2 .left)), lt-ltb 100 (c .before .before .before .before .before .before .args .c .value) (omega (arith, c .if3 .taken)))
 
 returns-4 : tie.Need-returns-4
-returns-4 c = simp (ltb-zero, le-ltb _ _ (c .before .before .before .before .if1 .left), le-ltb _ _ (c .before .before .if2 .left), le-ltb _ _ (c .if3 .left))
+returns-4 c = simp (ltb-zero, le-ltb 359 (c .before .before .before .before .before .before .args .c .hue) (omega (arith, c .before .before .before .before .if1 .left)), le-ltb 100 (c .before .before .before .before .before .before .args .c .saturation) (omega (arith, c .before .before .if2 .left)), le-ltb 100 (c .before .before .before .before .before .before .args .c .value) (omega (arith, c .if3 .left)))
 
 pub valid-spec : {M : Type 1} → statement M
 valid-spec = tie.close (tie.spec returns returns-2 returns-3 returns-4)

@@ -1,3 +1,4 @@
+use native.Mathlib.Omega.{arith}
 -- The text constructor: a zero byte, too long, or the text of the bytes. Assumes nothing.
 use mathlib.Core.Path.{sym, _∙_}
 use denote.Ref.{now}
@@ -13,13 +14,13 @@ refused-with-requires : tie.Need-refused-with-requires
 refused-with-requires c κs = search needs
 
 returns : tie.Need-returns
-returns c = rw (new-long (now (c .before .before .before .before .before .args .bytes)) (sym (c .before .before .before .all-nonzero .ensures) ∙ c .before .before .if1 .taken) (c .before .if2 .taken)) (c .refused-with .ensures)
+returns c = rw (new-long (now (c .before .before .before .before .before .args .bytes)) (sym (c .before .before .before .all-nonzero .ensures) ∙ c .before .before .if1 .taken) (omega (arith, c .before .if2 .taken))) (c .refused-with .ensures)
 
 text-at-requires : tie.Need-text-at-requires
 text-at-requires c κs = search needs
 
 returns-2 : tie.Need-returns-2
-returns-2 c = new-text (now (c .before .before .before .before .before .args .bytes)) (c .text-at .result) (sym (c .before .before .before .all-nonzero .ensures) ∙ c .before .before .if1 .taken) (c .before .if2 .left) (c .text-at .ensures)
+returns-2 c = new-text (now (c .before .before .before .before .before .args .bytes)) (c .text-at .result) (sym (c .before .before .before .all-nonzero .ensures) ∙ c .before .before .if1 .taken) (omega (arith, c .before .if2 .left)) (c .text-at .ensures)
 
 refused-with-requires-2 : tie.Need-refused-with-requires-2
 refused-with-requires-2 c κs = search needs
