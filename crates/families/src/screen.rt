@@ -212,7 +212,7 @@ fn made_in(s: &[u8], n: usize) -> bool
     if 55 < n {
         return false;
     }
-    if crate::text::all_zero(&s[n..]) {
+    if crate::text::zero_after(s, n) {
         return whole_popup(&s[..n]);
     }
     false
@@ -308,7 +308,7 @@ fn fields_in(s: &[u8], n: usize) -> FieldsAnswer
     if 55 < n {
         return not_made();
     }
-    if crate::text::all_zero(&s[n..]) {
+    if crate::text::zero_after(s, n) {
         return whole_fields(&s[..n]);
     }
     not_made()

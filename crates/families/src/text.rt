@@ -48,6 +48,13 @@ pub(crate) fn all_zero(s: &[u8]) -> bool
     true
 }
 
+pub(crate) fn zero_after(s: &[u8], n: usize) -> bool
+    requires { ⌜ n ≤ length (now s) ⌝ }
+    ensures { λ r. ⌜ r ≡ zeros (drop n (now (s .entry))) ⌝ }
+{
+    all_zero(&s[n..])
+}
+
 // Stored bytes: at most so many, nonzero, and zeros after them.
 pub(crate) fn made_bytes(s: &[u8], n: usize, most: usize) -> bool
     ensures { λ r. ⌜ r ≡ madeBytes most n (now (s .entry)) ⌝ }
@@ -59,7 +66,7 @@ pub(crate) fn made_bytes(s: &[u8], n: usize, most: usize) -> bool
         return all_nonzero(s);
     }
     if all_nonzero(&s[..n]) {
-        return all_zero(&s[n..]);
+        return zero_after(s, n);
     }
     false
 }

@@ -1,3 +1,4 @@
+-- `fields::judge_chosen` meets its contract. Assumes nothing.
 use native.Mathlib.Omega.{arith}
 -- A selection judged: its label at its turn, then the room for all. Assumes nothing.
 use borrow.Author.Tests.{lt-ltb, le-ltb, eq-eqb, ne-eqb}

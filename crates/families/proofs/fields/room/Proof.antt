@@ -1,3 +1,4 @@
+-- `fields::room` meets its contract. Assumes nothing.
 use native.Mathlib.Omega.{arith}
 -- So many bytes have room in a popup. Assumes nothing.
 use borrow.Author.Tests.{lt-ltb, le-ltb}

@@ -1,3 +1,4 @@
+-- `led::valid` meets its contract. Assumes nothing.
 use native.Mathlib.Omega.{arith}
 -- The colour tests are the sheet's ranges. Assumes nothing.
 use Rattle.codec.proofs.Items.{ltb-zero}

@@ -1,10 +1,8 @@
 -- Inspection: at most 55 bytes, a popup to the last of them, zeros after. Assumes nothing.
-use mathlib.Core.Path.{sym, ap, _∙_}
+use mathlib.Core.Path.{sym, _∙_}
 use native.Mathlib.Omega.{arith}
 use lib.Seq.{length-take-le}
 use denote.Ref.{now}
-use Rattle.families.specs.Text.{zeros}
-use Rattle.families.proofs.Stored.{rest-is}
 use Rattle.families.proofs.ScreenLaws.{fields-of, inspect-long, inspect-used, inspect-whole}
 use borrow.Author.Needs.{needs}
 use Rattle.families.proofs.screen.fields_in.Statement.{statement}
@@ -16,17 +14,8 @@ not-made-requires c κs = search needs
 returns : tie.Need-returns
 returns c = fields-of _ _ (c .not-made .result) (inspect-long (c .before .before .before .args .n) (now (c .before .before .before .args .s)) (c .before .if1 .taken)) (c .not-made .ensures)
 
-sub-all-zero : tie.Need-sub-all-zero
-sub-all-zero c = search needs
-
-part-all-zero-start : tie.Need-part-all-zero-start
-part-all-zero-start c = search needs
-
-part-all-zero-end : tie.Need-part-all-zero-end
-part-all-zero-end c = search needs
-
-all-zero-requires : tie.Need-all-zero-requires
-all-zero-requires c κs = search needs
+zero-after-requires : tie.Need-zero-after-requires
+zero-after-requires c κs = search needs
 
 slice-aggregate-whole-fields : tie.Need-slice-aggregate-whole-fields
 slice-aggregate-whole-fields c = sym (length-take-le _ _ (omega arith))
@@ -35,15 +24,13 @@ whole-fields-requires : tie.Need-whole-fields-requires
 whole-fields-requires c κs = search needs
 
 returns-2 : tie.Need-returns-2
-returns-2 c = let z = sym (c .before .before .before .all-zero .ensures ∙ ap zeros (rest-is (now (c .before .before .before .before .before .before .before .args .s)) (c .before .before .before .before .before .before .before .args .n))) ∙ c .before .before .if2 .taken in
-    fields-of _ _ (c .whole-fields .result) (inspect-whole (c .before .before .before .before .before .before .before .args .n) (now (c .before .before .before .before .before .before .before .args .s)) (c .before .before .before .before .before .if1 .left) (c .before .before .before .before .before .before .before .pre) z) (c .whole-fields .ensures)
+returns-2 c = fields-of _ _ (c .whole-fields .result) (inspect-whole (c .before .before .before .before .before .before .args .n) (now (c .before .before .before .before .before .before .args .s)) (c .before .before .before .before .if1 .left) (c .before .before .before .before .before .before .pre) (sym (c .before .before .before .zero-after .ensures) ∙ c .before .before .if2 .taken)) (c .whole-fields .ensures)
 
 not-made-requires-2 : tie.Need-not-made-requires-2
 not-made-requires-2 c κs = search needs
 
 returns-3 : tie.Need-returns-3
-returns-3 c = let z = sym (c .before .before .all-zero .ensures ∙ ap zeros (rest-is (now (c .before .before .before .before .before .before .args .s)) (c .before .before .before .before .before .before .args .n))) ∙ c .before .if2 .left in
-    fields-of _ _ (c .not-made2 .result) (inspect-used (c .before .before .before .before .before .before .args .n) (now (c .before .before .before .before .before .before .args .s)) (c .before .before .before .before .if1 .left) z) (c .not-made2 .ensures)
+returns-3 c = fields-of _ _ (c .not-made2 .result) (inspect-used (c .before .before .before .before .before .args .n) (now (c .before .before .before .before .before .args .s)) (c .before .before .before .if1 .left) (sym (c .before .before .zero-after .ensures) ∙ c .before .if2 .left)) (c .not-made2 .ensures)
 
 pub fields-in-spec : {M : Type 1} → statement M
 fields-in-spec =
@@ -51,10 +38,7 @@ fields-in-spec =
     (tie.spec
     not-made-requires
     returns
-    sub-all-zero
-    part-all-zero-start
-    part-all-zero-end
-    all-zero-requires
+    zero-after-requires
     slice-aggregate-whole-fields
     whole-fields-requires
     returns-2

@@ -1,11 +1,10 @@
 -- Whether stored bytes are made, of slices of any length. Assumes nothing.
-use mathlib.Core.Path.{ap, sym, _∙_}
+use mathlib.Core.Path.{sym, _∙_}
 use native.Mathlib.Omega.{arith}
 use denote.Ref.{now}
 use lib.Seq.{length-take-le}
 use borrow.Author.Tests.{le-leb, lt-leb}
-use Rattle.families.specs.Text.{zeros}
-use Rattle.families.proofs.Stored.{rest-is, made-short}
+use Rattle.families.proofs.Stored.{made-short}
 use borrow.Author.Needs.{needs}
 use Rattle.families.proofs.text.made_bytes.Statement.{statement}
 use Rattle.families.proofs.text.made_bytes.Tie as tie
@@ -25,20 +24,11 @@ slice-aggregate-all-nonzero c = sym (length-take-le _ _ (omega arith))
 all-nonzero-requires-2 : tie.Need-all-nonzero-requires-2
 all-nonzero-requires-2 c κs = search needs
 
-sub-all-zero : tie.Need-sub-all-zero
-sub-all-zero c = search needs
-
-part-all-zero-start : tie.Need-part-all-zero-start
-part-all-zero-start c = search needs
-
-part-all-zero-end : tie.Need-part-all-zero-end
-part-all-zero-end c = search needs
-
-all-zero-requires : tie.Need-all-zero-requires
-all-zero-requires c κs = search needs
+zero-after-requires : tie.Need-zero-after-requires
+zero-after-requires c κs = search needs
 
 returns-3 : tie.Need-returns-3
-returns-3 c = rw (le-leb _ _ (c .before .before .before .before .before .before .if1 .left), ← (c .before .before .before .all-nonzero2 .ensures), c .before .before .if3 .taken) (c .all-zero .ensures ∙ ap zeros (rest-is (now (c .before .before .before .before .before .before .before .before .args .s)) (c .before .before .before .before .before .before .before .before .args .n)))
+returns-3 c = rw (le-leb _ _ (c .before .before .before .before .before .if1 .left), ← (c .before .before .all-nonzero2 .ensures), c .before .if3 .taken) (c .zero-after .ensures)
 
 returns-4 : tie.Need-returns-4
 returns-4 c = rw (le-leb _ _ (c .before .before .before .before .if1 .left), ← (c .before .all-nonzero2 .ensures), c .if3 .left)
@@ -52,9 +42,6 @@ made-bytes-spec =
     returns-2
     slice-aggregate-all-nonzero
     all-nonzero-requires-2
-    sub-all-zero
-    part-all-zero-start
-    part-all-zero-end
-    all-zero-requires
+    zero-after-requires
     returns-3
     returns-4)

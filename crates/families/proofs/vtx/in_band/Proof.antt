@@ -1,3 +1,4 @@
+-- `vtx::in_band` meets its contract. Assumes nothing.
 use native.Mathlib.Omega.{arith}
 -- The frequency test is the sheet's range. Assumes nothing.
 use borrow.Author.Tests.{lt-ltb, le-ltb}

@@ -1,3 +1,4 @@
+-- `text::CommandString::new` meets its contract. Assumes nothing.
 use native.Mathlib.Omega.{arith}
 -- The text constructor: a zero byte, too long, or the text of the bytes. Assumes nothing.
 use mathlib.Core.Path.{sym, _∙_}
