@@ -1,7 +1,7 @@
 -- Document 01's sheets as data: what a body consists of, and what an answer is. Assumes nothing.
 use Prim.Native.Nat.{ℕ, _+_, _*_}
 use mathlib.Core.List.{List, [], _∷_}
-use lib.ListN.{length}
+use lib.ListN.{length, getD}
 
 -- a field of bits: how many, its least and its greatest value
 pub data Field : Type 0 where
@@ -59,3 +59,7 @@ sizeOf (text least most) v = length v + 1
 abbrev pub first : List ℕ → ℕ
 first [] = 0
 first (v ∷ vs) = v
+
+-- the number of item i
+abbrev pub itemNumber : List (List ℕ) → ℕ → ℕ
+itemNumber vs i = first (getD vs i [])

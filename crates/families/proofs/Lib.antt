@@ -5,16 +5,13 @@ pub mod Stored
 pub mod Inverse
 pub mod RoundTrip
 pub mod OneAnswer
-pub mod Examples
 pub mod TextLaws
 pub mod Acks
 pub mod OneAnswerText
-pub mod ExamplesText
 pub mod PopupLaws
 pub mod Made
 pub mod Judged
 pub mod PutFields
-pub mod ExamplesPopup
 pub mod PlaceLaws
 pub mod ScreenLaws
 pub mod ScreenBack

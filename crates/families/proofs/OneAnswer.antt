@@ -8,14 +8,14 @@ use denote.Ref.{now}
 use Rattle.codec.specs.Sheet.{Answer, got, refused, Said}
 use Rattle.codec.proofs.Writes.{refusalOf, refusal-back}
 use Rattle.codec.proofs.OneAnswer.{written-fixed}
-use Rattle.families.specs.Fc.{toldFc}
-use Rattle.families.specs.Osd.{toldOsd}
-use Rattle.families.specs.Vtx.{toldVtx}
-use Rattle.families.specs.Led.{toldLed}
-use Rattle.families.specs.General.{toldGeneral}
-use Rattle.families.specs.Crossfire.{toldCrossfire}
-use Rattle.families.specs.FlowControl.{toldFlow}
-use Rattle.families.proofs.Inverse.{fcOf, fc-of, osdOf, osd-of, vtxOf, vtx-of, ledOf, led-of, generalOf, general-of, crossfireOf, crossfire-of, flowOf, flow-of}
+use Rattle.families.specs.Fc.{toldFc, fcOf}
+use Rattle.families.specs.Osd.{toldOsd, osdOf}
+use Rattle.families.specs.Vtx.{toldVtx, vtxOf}
+use Rattle.families.specs.Led.{toldLed, ledOf}
+use Rattle.families.specs.General.{toldGeneral, generalOf}
+use Rattle.families.specs.Crossfire.{toldCrossfire, crossfireOf}
+use Rattle.families.specs.FlowControl.{toldFlow, flowOf}
+use Rattle.families.proofs.Inverse.{fc-of, osd-of, vtx-of, led-of, general-of, crossfire-of, flow-of}
 use Rattle.families.specs.declared.fc.FcRead.{FcRead}
 use Rattle.families.specs.declared.fc.FcRead.the-variants.{Got as GotFc, Refused as RefusedFc}
 use Rattle.families.specs.declared.osd.OsdRead.{OsdRead}

@@ -6,6 +6,8 @@ use mathlib.Core.Path.{_≡_, refl}
 use native.Mathlib.Omega.{arith}
 use native.Mathlib.Numerals.{add-one}
 use native.Mathlib.Nat.{add-sub-cancel-left, zero-sub, sub-zero, suc-sub-suc}
+use lib.Bits.{bitOr, or-zero-l, or-add-and, and-le-r}
+use lib.Dec.{eqb}
 use lib.ListN.{length, getD, drop, take, replicate, drop-of-length-le, length-drop}
 use lib.Seq.{drop-cons, take-all, take-length, length-take-le}
 use borrow.Author.Tests.{eq-eqb, ne-eqb, le-leb}
@@ -22,14 +24,28 @@ nonzero-on s i h e = rw (drop-cons s i 0 h, ne-eqb (getD s i 0) 0 e, add-one)
 pub nonzero-end : (s : List ℕ) (i : ℕ) → length s ≤ i → nonzero (drop i s) ≡ true
 nonzero-end s i h = rw (drop-of-length-le s h)
 
-pub zeros-stop : (s : List ℕ) (i : ℕ) → i < length s → (getD s i 0 ≡ 0 → ⊥) → zeros (drop i s) ≡ false
-zeros-stop s i h e = rw (drop-cons s i 0 h, ne-eqb (getD s i 0) 0 e)
+-- no byte seen is nonzero: none so far, nor this one
+or-none : (a b : ℕ) → eqb (bitOr a b) 0 ≡ pick (eqb a 0) (eqb b 0) false
+or-none zero b = rw (or-zero-l b)
+or-none (suc a) b =
+    let z : eqb (suc a) 0 ≡ false = ne-eqb (suc a) 0 (λ e. omega arith) in
+    rw z (ne-eqb (bitOr (suc a) b) 0 (λ e. let s = or-add-and (suc a) b in let l = and-le-r (suc a) b in omega arith))
 
-pub zeros-on : (s : List ℕ) (i : ℕ) → i < length s → getD s i 0 ≡ 0 → zeros (drop i s) ≡ zeros (drop (i + 1) s)
-zeros-on s i h e = rw (drop-cons s i 0 h, eq-eqb (getD s i 0) 0 e, add-one)
+both : (t u v : Bool) → pick t (pick u v false) false ≡ pick (pick t u false) v false
+both true u v = refl
+both false u v = refl
 
-pub zeros-end : (s : List ℕ) (i : ℕ) → length s ≤ i → zeros (drop i s) ≡ true
-zeros-end s i h = rw (drop-of-length-le s h)
+pub zeros-on : (s : List ℕ) (i seen : ℕ) → i < length s
+    → pick (eqb seen 0) (zeros (drop i s)) false ≡ pick (eqb (bitOr seen (getD s i 0)) 0) (zeros (drop (i + 1) s)) false
+zeros-on s i seen h =
+    rw (drop-cons s i 0 h, or-none seen (getD s i 0), add-one) (both (eqb seen 0) (eqb (getD s i 0) 0) (zeros (drop (suc i) s)))
+
+pub zeros-end : (s : List ℕ) (i seen : ℕ) → length s ≤ i → pick (eqb seen 0) (zeros (drop i s)) false ≡ eqb seen 0
+zeros-end s i seen h = rw (drop-of-length-le s h) (same (eqb seen 0))
+  where
+    same : (t : Bool) → pick t true false ≡ t
+    same true = refl
+    same false = refl
 
 pub rest-is : (s : List ℕ) (n : ℕ) → take (length s - n) (drop n s) ≡ drop n s
 rest-is s n = take-all (length s - n) (drop n s) (rw length-drop (omega arith))

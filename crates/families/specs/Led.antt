@@ -1,7 +1,10 @@
 -- 0x09 LED: what a colour and each command say, and what a reading tells. Assumes nothing.
 use Prim.Native.Nat.{ℕ}
 use mathlib.Core.List.{List, [], _∷_}
-use Rattle.codec.specs.Sheet.{Answer, got, refused, Said, said}
+use lib.ListN.{getD}
+use lib.Dec.{eqb}
+use Rattle.codec.specs.Pick.{pick}
+use Rattle.codec.specs.Sheet.{Answer, got, refused, Said, said, itemNumber}
 use Rattle.codec.specs.Refusals.{refusalNumber}
 use Rattle.families.specs.declared.led.LedColor.{LedColor}
 use Rattle.families.specs.declared.led.ColorRead.{ColorRead}
@@ -20,6 +23,18 @@ ledSays (OverrideColor c) = said 0x02 (colorSays c ∷ [])
 ledSays (OverridePulse t a b) = said 0x03 ((t ∷ []) ∷ colorSays a ∷ colorSays b ∷ [])
 ledSays (OverrideBlink t a b) = said 0x04 ((t ∷ []) ∷ colorSays a ∷ colorSays b ∷ [])
 ledSays (OverrideShift t c) = said 0x05 ((t ∷ []) ∷ colorSays c ∷ [])
+
+-- the command that says it
+abbrev pub colorOf : List ℕ → LedColor
+colorOf v = record { hue = getD v 0 0; saturation = getD v 1 0; value = getD v 2 0 }
+
+abbrev pub ledOf : Said → LedCommand
+ledOf (said sub vs) =
+    pick (eqb sub 0x01) SetDefault
+    (pick (eqb sub 0x02) (OverrideColor (colorOf (getD vs 0 [])))
+    (pick (eqb sub 0x03) (OverridePulse (itemNumber vs 0) (colorOf (getD vs 1 [])) (colorOf (getD vs 2 [])))
+    (pick (eqb sub 0x04) (OverrideBlink (itemNumber vs 0) (colorOf (getD vs 1 [])) (colorOf (getD vs 2 [])))
+    (OverrideShift (itemNumber vs 0) (colorOf (getD vs 1 []))))))
 
 abbrev pub toldColor : ColorRead → Answer (List ℕ)
 toldColor (GotColor c) = got (colorSays c)

@@ -35,17 +35,17 @@ pub(crate) fn all_nonzero(s: &[u8]) -> bool
     true
 }
 
-pub(crate) fn all_zero(s: &[u8]) -> bool
+// No way out before the end, so that the compiler takes many bytes at a time.
+fn all_zero(s: &[u8]) -> bool
     ensures { λ r. ⌜ r ≡ zeros (now (s .entry)) ⌝ }
 {
+    let mut seen: u8 = 0;
     let mut i = 0;
     while i < s.len() {
-        if s[i] != 0 {
-            return false;
-        }
+        seen = seen | s[i];
         i += 1;
     }
-    true
+    seen == 0
 }
 
 pub(crate) fn zero_after(s: &[u8], n: usize) -> bool
@@ -56,7 +56,7 @@ pub(crate) fn zero_after(s: &[u8], n: usize) -> bool
 }
 
 // Stored bytes: at most so many, nonzero, and zeros after them.
-pub(crate) fn made_bytes(s: &[u8], n: usize, most: usize) -> bool
+pub fn made_bytes(s: &[u8], n: usize, most: usize) -> bool
     ensures { λ r. ⌜ r ≡ madeBytes most n (now (s .entry)) ⌝ }
 {
     if most < n {
