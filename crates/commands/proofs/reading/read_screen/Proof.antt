@@ -1,0 +1,32 @@
+-- `reading::read_screen` meets its contract. Assumes nothing.
+use mathlib.Core.Path.{sym, ap, _∙_}
+use Rattle.codec.specs.Refusals.{outcomeNumber}
+use Rattle.families.specs.Screen.{readScreen}
+use Rattle.commands.specs.Reading.{keptScreen}
+use Rattle.commands.proofs.Answers.{screen-got, turned-away}
+use borrow.Author.Needs.{needs}
+use Rattle.commands.proofs.reading.read_screen.Statement.{statement}
+use Rattle.commands.proofs.reading.read_screen.Tie as tie
+
+read-requires : tie.Need-read-requires
+read-requires c κs = search needs
+
+enum-told : tie.Need-enum-told
+enum-told c = search needs
+
+enum-known-outcome : tie.Need-enum-known-outcome
+enum-known-outcome c = search needs
+
+refused-with-requires : tie.Need-refused-with-requires
+refused-with-requires c κs = search needs
+
+returns : tie.Need-returns
+returns c = screen-got _ _ _ (c .before .before .before .before .read .result) (c .before .before .before .before .read .ensures) (c .enum-told .given .1)
+
+returns-2 : tie.Need-returns-2
+returns-2 c = turned-away (c .refused-with .result) (readScreen _) keptScreen _ _ (c .before .before .outcome .given .0 .0) (sym (ap outcomeNumber (c .before .before .outcome .given .1)) ∙ c .before .before .before .before .before .before .read .ensures .0) (c .refused-with .ensures)
+
+pub read-screen-spec : {M : Type 1} → statement M
+read-screen-spec =
+    tie.close
+    (tie.spec read-requires enum-told enum-known-outcome refused-with-requires returns returns-2)

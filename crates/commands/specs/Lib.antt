@@ -1,0 +1,4 @@
+pub mod Command
+pub mod Reading
+pub mod Writing
+pub mod Closing

@@ -1,0 +1,94 @@
+// The payload of a frame of type 0x32, whole: the Rust's commands.rs.
+ghost use mathlib.Core.Path.{_≡_};
+ghost use lib.ListN.{length};
+ghost use Rattle.codec.specs.Sheet.{got, refused};
+ghost use Rattle.codec.specs.Refusals.{refusalNumber};
+ghost use Rattle.codec.specs.Told.{Writes};
+ghost use Rattle.commands.specs.Command.{blankCommand, made};
+ghost use Rattle.commands.specs.Reading.{readCommand, CommandIs};
+ghost use Rattle.commands.specs.Writing.{payloadOf, stopWriting};
+use codec::refusal::Outcome;
+use codec::refusal::Refusal;
+use codec::writer::Written;
+use families::fc::FcCommand;
+use families::payload::CommandPayload;
+
+mod reading;
+mod writing;
+
+// "The largest length is 60."
+const MAX_PAYLOAD_SIZE: usize = 60;
+
+// A command. A popup's bytes and an ACK's information stand beside its family's enum.
+pub struct DirectCommands {
+    pub dst_addr: u8,
+    pub src_addr: u8,
+    pub payload: CommandPayload,
+    pub len: usize,
+    pub bytes: [u8; 55],
+}
+
+pub struct CommandAnswer {
+    pub outcome: Outcome,
+    pub command: DirectCommands,
+}
+
+impl DirectCommands {
+    // "The least length and the frame type belong to the payload type: 4 and 0x32."
+    pub const MIN_PAYLOAD_SIZE: usize = 4;
+
+    pub const PACKET_TYPE: u8 = 0x32;
+
+    // Disarm, both addresses 0, no stored bytes.
+    fn blank() -> DirectCommands
+        ensures { λ r. ⌜ r ≡ blankCommand ⌝ }
+    {
+        DirectCommands {
+            dst_addr: 0,
+            src_addr: 0,
+            payload: CommandPayload::Fc(FcCommand::ForceDisarm),
+            len: 0,
+            bytes: [0u8; 55],
+        }
+    }
+
+    pub fn from_bytes(payload: &[u8]) -> CommandAnswer
+        ensures { λ r. ⌜ CommandIs (readCommand (now (payload .entry))) r ⌝ }
+    {
+        let n = payload.len();
+        if n < Self::MIN_PAYLOAD_SIZE {
+            return refused_with(Refusal::InvalidPayloadLength);
+        }
+        if MAX_PAYLOAD_SIZE < n {
+            return refused_with(Refusal::InvalidPayloadLength);
+        }
+        let check = crc::payload_check(payload);
+        if payload[n - 1] != check {
+            return refused_with(Refusal::InvalidPayload);
+        }
+        reading::read_family(payload[0], payload[1], payload[2], &payload[3..n - 1])
+    }
+
+    // Into the front of the buffer, the rest of which keeps its bytes; refused, all do.
+    pub fn to_bytes(self, buffer: &mut [u8]) -> Written
+        ensures { λ r. ⌜ Writes (stopWriting self (length (now (buffer .entry)))) (payloadOf self) r (now (buffer .entry)) (now (buffer .exit)) ⌝ }
+    {
+        if writing::is_made(self) {
+            if buffer.len() < Self::MIN_PAYLOAD_SIZE {
+                return Written::Refused(Refusal::BufferOverflow);
+            }
+            return writing::write_made(self, buffer);
+        }
+        Written::Refused(Refusal::RecordNotMade)
+    }
+}
+
+// "With each number come the same blank record"
+pub(crate) fn refused_with(why: Refusal) -> CommandAnswer
+    ensures { λ r. ⌜ CommandIs (refused (refusalNumber why) 0) r ⌝ }
+{
+    CommandAnswer {
+        outcome: Outcome::Refused(why),
+        command: DirectCommands::blank(),
+    }
+}
