@@ -18,3 +18,4 @@ pub mod TextRange
 pub mod Outcomes
 pub mod Bounds
 pub mod ReadJoin
+pub mod There

@@ -33,7 +33,7 @@ use Rattle.families.specs.declared.payload.CommandPayload.the-variants.{Fc, Osd
 use Rattle.families.proofs.RoundTrip.{fc-known, osd-known, led-known, general-known, crossfire-known, flow-known}
 use Rattle.families.proofs.Acks.{room-of}
 use Rattle.commands.specs.Command.{storedIn, made}
-use Rattle.commands.specs.Writing.{bodyOf, stopBody, payloadOf, roomOf, stopWriting}
+use Rattle.commands.specs.Writing.{bodyOf, stopBody, opening, checked, roomOf, stopWriting}
 use Rattle.commands.specs.Closing.{closed}
 use Rattle.commands.specs.declared.DirectCommands.{DirectCommands}
 use Rattle.commands.proofs.Closed.{part-put, closed-is}
@@ -51,54 +51,51 @@ body-fits (Screen c) t room h = room-of true room (length (screenBody c t)) h .1
 body-fits (Ack a) t room h = room-of (actionOk (ackSays a t)) room (length (writeItems ackItems (ackSays a t))) h .1
 
 -- the payload is four bytes longer than its body
-pub payload-length : (c : DirectCommands) → length (payloadOf c) ≡ length (bodyOf (c .payload) (storedIn c)) + 4
-payload-length c = rw (length-append (bodyOf (c .payload) (storedIn c))) (omega arith)
+pub checked-length : (dst src : ℕ) (p : CommandPayload) (t : List ℕ) → length (checked (opening dst src p t)) ≡ length (bodyOf p t) + 4
+checked-length dst src p t = rw (length-append (bodyOf p t)) (omega arith)
 
 mid-length : (s : List ℕ) (k : ℕ) → k + 4 ≤ length s → length (take k (drop 3 s)) ≡ k
 mid-length s k h = length-take-le k (drop 3 s) (rw length-drop (omega arith))
 
--- counted: nothing stopped it, and it stands in its place
-pub body-in : (c : DirectCommands) (s q : List ℕ) (k n : ℕ) → k + 4 ≤ length s
-    → Writes (stopBody (c .payload) (storedIn c) (length (take k (drop 3 s)))) (bodyOf (c .payload) (storedIn c)) (Count n) (take k (drop 3 s)) q
-    → (stopBody (c .payload) (storedIn c) k ≡ 0) × ((n ≡ length (bodyOf (c .payload) (storedIn c))) × ((n ≤ k) × (putMid 3 k s q ≡ sets s 3 (bodyOf (c .payload) (storedIn c)))))
-body-in c s q k n h e =
-    let m = mid-length s k h in
-    let w = bodyOf (c .payload) (storedIn c) in
-    let g = rw m at e in
-    let f = free (stopBody (c .payload) (storedIn c) k) n (length w) (g .0) in
-    let b = body-fits (c .payload) (storedIn c) k (f .0) in
-    let p : q ≡ sets (take k (drop 3 s)) 0 w = rw (f .0) at (g .1) in
-    (f .0, (f .1, (omega arith, rw p (part-put s w 3 k (omega arith) b))))
+-- counted: nothing stopped the body, and it stands in its place, the k bytes from the third on
+pub body-in : (p : CommandPayload) (t s q : List ℕ) (k n : ℕ) → k + 4 ≤ length s
+    → Writes (stopBody p t (length (take k (drop 3 s)))) (bodyOf p t) (Count n) (take k (drop 3 s)) q
+    → (stopBody p t k ≡ 0) × ((n ≡ length (bodyOf p t)) × ((n ≤ k) × (putMid 3 k s q ≡ sets s 3 (bodyOf p t))))
+body-in p t s q k n h e =
+    let w = bodyOf p t in
+    let g = rw (mid-length s k h) at e in
+    let f = free (stopBody p t k) n (length w) (g .0) in
+    let b = body-fits p t k (f .0) in
+    let x : q ≡ sets (take k (drop 3 s)) 0 w = rw (f .0) at (g .1) in
+    (f .0, (f .1, (omega arith, rw x (part-put s w 3 k (omega arith) b))))
 
-pub closing-fits : (c : DirectCommands) (s q : List ℕ) (k n : ℕ) → k + 4 ≤ length s
-    → Writes (stopBody (c .payload) (storedIn c) (length (take k (drop 3 s)))) (bodyOf (c .payload) (storedIn c)) (Count n) (take k (drop 3 s)) q
-    → n + 4 ≤ length (putMid 3 k s q)
-closing-fits c s q k n h e =
-    let b = body-in c s q k n h e in
-    let l = length-sets s 3 (bodyOf (c .payload) (storedIn c)) in
+pub closing-fits : (p : CommandPayload) (t s q : List ℕ) (k n : ℕ) → k + 4 ≤ length s
+    → Writes (stopBody p t (length (take k (drop 3 s)))) (bodyOf p t) (Count n) (take k (drop 3 s)) q → n + 4 ≤ length (putMid 3 k s q)
+closing-fits p t s q k n h e =
+    let b = body-in p t s q k n h e in
+    let l = length-sets s 3 (bodyOf p t) in
     rw (b .1 .1 .1, l) (omega (arith, b .1 .1 .0))
 
-pub made-written : (c : DirectCommands) (s q s' : List ℕ) (k n id : ℕ) → k ≡ roomOf (length s) → k + 4 ≤ length s
-    → Writes (stopBody (c .payload) (storedIn c) (length (take k (drop 3 s)))) (bodyOf (c .payload) (storedIn c)) (Count n) (take k (drop 3 s)) q
-    → id ≡ familyId (c .payload) → s' ≡ closed (c .«dst_addr») (c .«src_addr») id n (putMid 3 k s q)
-    → Writes (stopBody (c .payload) (storedIn c) (roomOf (length s))) (payloadOf c) (Count (n + 4)) s s'
-made-written c s q s' k n id r h e i f =
-    let b = body-in c s q k n h e in
-    let w = bodyOf (c .payload) (storedIn c) in
-    let z : stopBody (c .payload) (storedIn c) (roomOf (length s)) ≡ 0 = rw r at (b .0) in
-    let l : n + 4 ≡ length (payloadOf c) = rw (payload-length c) (ap (λ (m : ℕ). m + 4) (b .1 .0)) in
-    let g = closed-is s w (c .«dst_addr») (c .«src_addr») id n (b .1 .0) (omega (arith, b .1 .1 .0)) in
-    writes-all (stopBody (c .payload) (storedIn c) (roomOf (length s))) (n + 4) (payloadOf c) s s' z l (rw (i, b .1 .1 .1) at f ∙ rw i at g)
+pub made-written : (dst src : ℕ) (p : CommandPayload) (t s q s' : List ℕ) (k n id : ℕ) → k ≡ roomOf (length s) → k + 4 ≤ length s
+    → Writes (stopBody p t (length (take k (drop 3 s)))) (bodyOf p t) (Count n) (take k (drop 3 s)) q
+    → id ≡ familyId p → s' ≡ closed dst src id n (putMid 3 k s q)
+    → Writes (stopBody p t (roomOf (length s))) (checked (opening dst src p t)) (Count (n + 4)) s s'
+made-written dst src p t s q s' k n id r h e i f =
+    let b = body-in p t s q k n h e in
+    let z : stopBody p t (roomOf (length s)) ≡ 0 = rw r at (b .0) in
+    let l : n + 4 ≡ length (checked (opening dst src p t)) = rw (checked-length dst src p t) (ap (λ (m : ℕ). m + 4) (b .1 .0)) in
+    let g = closed-is s (bodyOf p t) dst src id n (b .1 .0) (omega (arith, b .1 .1 .0)) in
+    writes-all (stopBody p t (roomOf (length s))) (n + 4) (checked (opening dst src p t)) s s' z l (rw (i, b .1 .1 .1) at f ∙ rw i at g)
 
 -- refused: the part is as it was, and so is all
-pub body-refused : (c : DirectCommands) (s q : List ℕ) (k : ℕ) (why : Refusal) → k ≡ roomOf (length s) → k + 4 ≤ length s
-    → Writes (stopBody (c .payload) (storedIn c) (length (take k (drop 3 s)))) (bodyOf (c .payload) (storedIn c)) (Refused why) (take k (drop 3 s)) q
-    → Writes (stopBody (c .payload) (storedIn c) (roomOf (length s))) (payloadOf c) (Refused why) s (putMid 3 k s q)
-body-refused c s q k why r h e =
+pub body-refused : (dst src : ℕ) (p : CommandPayload) (t s q : List ℕ) (k : ℕ) (why : Refusal) → k ≡ roomOf (length s) → k + 4 ≤ length s
+    → Writes (stopBody p t (length (take k (drop 3 s)))) (bodyOf p t) (Refused why) (take k (drop 3 s)) q
+    → Writes (stopBody p t (roomOf (length s))) (checked (opening dst src p t)) (Refused why) s (putMid 3 k s q)
+body-refused dst src p t s q k why r h e =
     let m = mid-length s k h ∙ r in
-    by (stopBody (c .payload) (storedIn c) (roomOf (length s))) (rw m at e)
+    by (stopBody p t (roomOf (length s))) (rw m at e)
   where
-    by : (stop : ℕ) → Writes stop (bodyOf (c .payload) (storedIn c)) (Refused why) (take k (drop 3 s)) q → Writes stop (payloadOf c) (Refused why) s (putMid 3 k s q)
+    by : (stop : ℕ) → Writes stop (bodyOf p t) (Refused why) (take k (drop 3 s)) q → Writes stop (checked (opening dst src p t)) (Refused why) s (putMid 3 k s q)
     by zero g = let z : _≡_ {A = ℕ} 0 1 = cc in absurd (omega arith)
     by (suc n) g = (g .0, rw (g .1) (put-same 3 k s))
 

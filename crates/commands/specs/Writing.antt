@@ -47,12 +47,16 @@ stopBody (Screen c) t room = stopRoom room (length (screenBody c t))
 stopBody (Ack a) t room = stopAck room (ackSays a t)
 
 -- "destination (1), source (1), command id (1), body"
-abbrev pub openOf : DirectCommands → List ℕ
-openOf c = c .«dst_addr» ∷ c .«src_addr» ∷ familyId (c .payload) ∷ bodyOf (c .payload) (storedIn c)
+abbrev pub opening : ℕ → ℕ → CommandPayload → List ℕ → List ℕ
+opening dst src p t = dst ∷ src ∷ familyId p ∷ bodyOf p t
 
--- THE payload: "The message is byte 0x32, then all payload bytes but the last."
+-- "check (1)": "The message is byte 0x32, then all payload bytes but the last."
+abbrev pub checked : List ℕ → List ℕ
+checked o = o ++ checkOf commandPolynomial (0x32 ∷ o) ∷ []
+
+-- THE payload
 abbrev pub payloadOf : DirectCommands → List ℕ
-payloadOf c = openOf c ++ checkOf commandPolynomial (0x32 ∷ openOf c) ∷ []
+payloadOf c = checked (opening (c .«dst_addr») (c .«src_addr») (c .payload) (storedIn c))
 
 -- "room R = min(length, 60) - 4 for the body"
 abbrev pub roomOf : ℕ → ℕ

@@ -73,11 +73,20 @@ impl DirectCommands {
     pub fn to_bytes(self, buffer: &mut [u8]) -> Written
         ensures { λ r. ⌜ Writes (stopWriting self (length (now (buffer .entry)))) (payloadOf self) r (now (buffer .entry)) (now (buffer .exit)) ⌝ }
     {
-        if writing::is_made(self) {
+        let payload = self.payload;
+        let bytes = self.bytes;
+        if writing::is_made(payload, &bytes, self.len) {
             if buffer.len() < Self::MIN_PAYLOAD_SIZE {
                 return Written::Refused(Refusal::BufferOverflow);
             }
-            return writing::write_made(self, buffer);
+            return writing::write_made(
+                self.dst_addr,
+                self.src_addr,
+                payload,
+                &bytes,
+                self.len,
+                buffer,
+            );
         }
         Written::Refused(Refusal::RecordNotMade)
     }

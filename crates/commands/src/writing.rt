@@ -1,61 +1,45 @@
 // A command judged, and written in place.
 ghost use mathlib.Core.Path.{_≡_};
-ghost use mathlib.Core.List.{_++_, _∷_, []};
-ghost use Prim.Native.Nat.{_+_, _≤_, _<_};
+ghost use Prim.Native.Nat.{_+_, _≤_};
 ghost use lib.ListN.{length, take};
-ghost use lib.Seq.{sets};
-ghost use Rattle.crc.specs.Check.{commandPolynomial, checkOf};
 ghost use Rattle.codec.specs.Told.{Writes};
-ghost use Rattle.families.specs.Payload.{familyId};
-ghost use Rattle.families.specs.Fields.{madePopup};
-ghost use Rattle.commands.specs.Command.{made, madeNone, storedIn};
-ghost use Rattle.commands.specs.Writing.{bodyOf, stopBody, payloadOf, roomOf};
+ghost use Rattle.commands.specs.Command.{madeNone, madeScreen, madeBeside};
+ghost use Rattle.commands.specs.Writing.{bodyOf, stopBody, opening, checked, roomOf};
 ghost use Rattle.commands.specs.Closing.{closed};
-use crate::DirectCommands;
 use codec::refusal::Refusal;
 use codec::writer::Written;
 use families::payload::CommandPayload;
 use families::screen::ScreenCommand;
-use families::screen::ScreenPopup;
 
-fn stores_none(command: DirectCommands) -> bool
-    ensures { λ r. ⌜ r ≡ madeNone (command .len) (command .bytes) ⌝ }
+// Nothing is stored beside most commands.
+fn stores_none(bytes: &[u8], len: usize) -> bool
+    ensures { λ r. ⌜ r ≡ madeNone len (now (bytes .entry)) ⌝ }
 {
-    let b = command.bytes;
-    families::text::made_bytes(&b, command.len, 0)
+    families::text::made_bytes(bytes, len, 0)
 }
 
-fn popup_made(command: DirectCommands) -> bool
-    ensures { λ r. ⌜ r ≡ madePopup (record { len = command .len; bytes = command .bytes }) ⌝ }
+fn screen_made(command: ScreenCommand, bytes: &[u8], len: usize) -> bool
+    ensures { λ r. ⌜ r ≡ madeScreen command len (now (bytes .entry)) ⌝ }
 {
-    let bytes = command.bytes;
-    let p = ScreenPopup {
-        len: command.len,
-        bytes: bytes,
-    };
-    p.made()
+    match command {
+        ScreenCommand::PopupMessageStart => families::screen::made(bytes, len),
+        ScreenCommand::SelectionReturnValue { value, response } => stores_none(bytes, len),
+    }
 }
 
-pub(crate) fn is_made(command: DirectCommands) -> bool
-    ensures { λ r. ⌜ r ≡ made command ⌝ }
+pub(crate) fn is_made(payload: CommandPayload, bytes: &[u8], len: usize) -> bool
+    ensures { λ r. ⌜ r ≡ madeBeside payload len (now (bytes .entry)) ⌝ }
 {
-    let p = command.payload;
-    match p {
-        CommandPayload::Screen(s) => match s {
-            ScreenCommand::PopupMessageStart => popup_made(command),
-            ScreenCommand::SelectionReturnValue { value, response } => stores_none(command),
-        },
-        CommandPayload::Ack(a) => {
-            let b = command.bytes;
-            families::ack::made(&b, command.len)
-        }
-        CommandPayload::Fc(_) => stores_none(command),
-        CommandPayload::Osd(_) => stores_none(command),
-        CommandPayload::Vtx(_) => stores_none(command),
-        CommandPayload::Led(_) => stores_none(command),
-        CommandPayload::General(_) => stores_none(command),
-        CommandPayload::Crossfire(_) => stores_none(command),
-        CommandPayload::FlowControl(_) => stores_none(command),
+    match payload {
+        CommandPayload::Fc(_) => stores_none(bytes, len),
+        CommandPayload::Osd(_) => stores_none(bytes, len),
+        CommandPayload::Vtx(_) => stores_none(bytes, len),
+        CommandPayload::Led(_) => stores_none(bytes, len),
+        CommandPayload::General(_) => stores_none(bytes, len),
+        CommandPayload::Crossfire(_) => stores_none(bytes, len),
+        CommandPayload::FlowControl(_) => stores_none(bytes, len),
+        CommandPayload::Screen(s) => screen_made(s, bytes, len),
+        CommandPayload::Ack(_) => families::ack::made(bytes, len),
     }
 }
 
@@ -99,17 +83,23 @@ fn close(dst: u8, src: u8, id: u8, n: usize, buffer: &mut [u8])
     buffer[n + 3] = check;
 }
 
-pub(crate) fn write_made(command: DirectCommands, buffer: &mut [u8]) -> Written
+// The payload, of a command that is made.
+pub(crate) fn write_made(
+    dst: u8,
+    src: u8,
+    payload: CommandPayload,
+    bytes: &[u8],
+    len: usize,
+    buffer: &mut [u8],
+) -> Written
     requires { ⌜ 4 ≤ length (now buffer) ⌝ }
-    ensures { λ r. ⌜ Writes (stopBody (command .payload) (storedIn command) (roomOf (length (now (buffer .entry))))) (payloadOf command) r (now (buffer .entry)) (now (buffer .exit)) ⌝ }
+    ensures { λ r. ⌜ Writes (stopBody payload (take len (now (bytes .entry))) (roomOf (length (now (buffer .entry))))) (checked (opening dst src payload (take len (now (bytes .entry))))) r (now (buffer .entry)) (now (buffer .exit)) ⌝ }
 {
-    let payload = command.payload;
-    let bytes = command.bytes;
     let end = room_of(buffer.len()) + 3;
-    match write_body(payload, &bytes, command.len, &mut buffer[3..end]) {
+    match write_body(payload, bytes, len, &mut buffer[3..end]) {
         Written::Count(n) => {
             let id = families::payload::command_id(payload);
-            close(command.dst_addr, command.src_addr, id, n, buffer);
+            close(dst, src, id, n, buffer);
             Written::Count(n + 4)
         }
         Written::Refused(r) => Written::Refused(r),

@@ -1,1 +1,4 @@
 pub mod OneAnswer
+pub mod Handed
+pub mod MadePlain
+pub mod OneAnswerMade

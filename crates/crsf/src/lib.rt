@@ -1,4 +1,6 @@
 // The functions that C and Rust call: numbers and byte slices only (include/crsf.h).
+mod made;
+
 ghost use mathlib.Core.Path.{_≡_};
 ghost use Rattle.crc.specs.Check.{commandPolynomial, checkFrom};
 

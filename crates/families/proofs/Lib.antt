@@ -4,6 +4,7 @@ pub mod Colour
 pub mod Stored
 pub mod Inverse
 pub mod RoundTrip
+pub mod Said
 pub mod OneAnswer
 pub mod TextLaws
 pub mod Acks

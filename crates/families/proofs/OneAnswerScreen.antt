@@ -23,8 +23,8 @@ use Rattle.families.proofs.screen.write_to.Reads as write
 use Rattle.families.proofs.screen.write_to.Kinds as write-kinds
 use Rattle.families.proofs.screen.ScreenPopup.new.Reads as new
 use Rattle.families.proofs.screen.ScreenPopup.new.Kinds as new-kinds
-use Rattle.families.proofs.screen.ScreenPopup.made.Reads as made
-use Rattle.families.proofs.screen.ScreenPopup.made.Kinds as made-kinds
+use Rattle.families.proofs.screen.made.Reads as made
+use Rattle.families.proofs.screen.made.Kinds as made-kinds
 use Rattle.families.proofs.screen.ScreenPopup.fields.Reads as fields
 use Rattle.families.proofs.screen.ScreenPopup.fields.Kinds as fields-kinds
 
@@ -48,7 +48,7 @@ write-to-one κs a x y s t p q =
     let body = now (a .1 .1 .1 .0) in
     writes-one (stopRoom (length body) (length w)) w x y body (now (s .1 .1 .1 .0)) (now (t .1 .1 .1 .0)) p q
 
-pub made-one : (κs : Lfts 0) (a : Dens κs made-kinds.ps) (x y : resT made-kinds.r κs .Denot) (s t : AtExit (endedOf 0 made-kinds.ps made-kinds.r) κs)
+pub made-one : (κs : Lfts 1) (a : Dens κs made-kinds.ps) (x y : resT made-kinds.r κs .Denot) (s t : AtExit (endedOf 1 made-kinds.ps made-kinds.r) κs)
     → made.Post κs a x s → made.Post κs a y t → x ≡ y
 made-one κs a x y s t p q = p ∙ sym q
 

@@ -5,8 +5,8 @@ use mathlib.Core.List.{List, [], _∷_, _++_}
 use mathlib.Core.Path.{_≡_, refl, ap, sym, _∙_}
 use native.Mathlib.Omega.{arith}
 use native.Mathlib.Numerals.{add-one}
-use lib.ListN.{length, take, drop, length-drop}
-use lib.Seq.{length-take-le}
+use lib.ListN.{length, take, drop, length-drop, drop-of-length-le}
+use lib.Seq.{length-take-le, take-all}
 use lib.Dec.{leb, eqb}
 use borrow.Author.Tests.{le-leb, lt-leb, eq-eqb, ne-eqb}
 use Rattle.crc.specs.Check.{Bytes}
@@ -150,6 +150,12 @@ inspect-long n b h = rw (lt-leb n 55 h)
 pub inspect-used : (n : ℕ) (b : List ℕ) → n ≤ 55 → zeros (drop n b) ≡ false → inspect (record { len = n; bytes = b }) ≡ refused 5 0
 inspect-used n b h z = rw (le-leb n 55 h, z)
 
+pub inspect-all : (n : ℕ) (b : List ℕ) → n ≤ 55 → length b ≤ n → inspect (record { len = n; bytes = b }) ≡ whole n (readPopup b 0)
+inspect-all n b h l = rw (le-leb n 55 h, drop-of-length-le b l, take-all n b l)
+
+pub inspect-part : (n : ℕ) (b : List ℕ) → n ≤ 55 → zeros (drop n b) ≡ true → inspect (record { len = n; bytes = b }) ≡ whole n (readPopup (take n b) 0)
+inspect-part n b h z = rw (le-leb n 55 h, z)
+
 pub inspect-whole : (n : ℕ) (b : List ℕ) → n ≤ 55 → length b ≡ 55 → zeros (drop n b) ≡ true
     → inspect (record { len = n; bytes = b }) ≡ whole (length (take n b)) (readPopup (take n b) 0)
 inspect-whole n b h l z =
@@ -160,13 +166,13 @@ got-pick : (t : Bool) (f : ScreenPopupFields) → isGot (pick t (got f) (refused
 got-pick true f = refl
 got-pick false f = refl
 
-pub whole-is : (s : List ℕ) (n : ℕ) (q : Popup) → readPopup s 0 ≡ got q → 0 + length (writePopup q) ≡ n → eqb n (length s) ≡ isGot (whole (length s) (readPopup s 0))
-whole-is s n q e f =
+pub whole-is : (s : List ℕ) (m n : ℕ) (q : Popup) → readPopup s 0 ≡ got q → 0 + length (writePopup q) ≡ n → eqb n m ≡ isGot (whole m (readPopup s 0))
+whole-is s m n q e f =
     let l : length (writePopup q) ≡ n = omega arith in
-    sym (ap (λ (a : Answer Popup). isGot (whole (length s) a)) e ∙ got-pick (eqb (length (writePopup q)) (length s)) (fieldsOf q) ∙ ap (λ (m : ℕ). eqb m (length s)) l)
+    sym (ap (λ (a : Answer Popup). isGot (whole m a)) e ∙ got-pick (eqb (length (writePopup q)) m) (fieldsOf q) ∙ ap (λ (i : ℕ). eqb i m) l)
 
-pub whole-not : (s : List ℕ) (n k : ℕ) → readPopup s 0 ≡ refused n k → false ≡ isGot (whole (length s) (readPopup s 0))
-whole-not s n k e = sym (ap (λ (a : Answer Popup). isGot (whole (length s) a)) e)
+pub whole-not : (s : List ℕ) (m n k : ℕ) → readPopup s 0 ≡ refused n k → false ≡ isGot (whole m (readPopup s 0))
+whole-not s m n k e = sym (ap (λ (a : Answer Popup). isGot (whole m a)) e)
 
 -- ---- the fields at their places
 abbrev pub fieldsWith : Head → ScreenAdditionalData → Bool → More → CommandString → CommandString → CommandString → CommandString → CommandString → ScreenPopupFields

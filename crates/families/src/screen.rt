@@ -195,25 +195,28 @@ pub fn write_to(command: ScreenCommand, bytes: &[u8], len: usize, body: &mut [u8
     }
 }
 
-// Whether the bytes are a popup to the last of them.
-fn whole_popup(s: &[u8]) -> bool
-    ensures { λ r. ⌜ r ≡ isGot (whole (length (now (s .entry))) (readPopup (now (s .entry)) 0)) ⌝ }
+// Whether the bytes are a popup that ends after n of them.
+fn whole_popup(s: &[u8], n: usize) -> bool
+    ensures { λ r. ⌜ r ≡ isGot (whole n (readPopup (now (s .entry)) 0)) ⌝ }
 {
     match crate::popup::parse(s, 0) {
-        PopupRead::Got(p) => p.values.next == s.len(),
-        PopupRead::Refused(n) => false,
+        PopupRead::Got(p) => p.values.next == n,
+        PopupRead::Refused(r) => false,
     }
 }
 
-fn made_in(s: &[u8], n: usize) -> bool
-    requires { ⌜ length (now s) ≡ 55 ⌝ }
-    ensures { λ r. ⌜ r ≡ madePopup (record { len = n; bytes = now (s .entry) }) ⌝ }
+// Stored bytes that the constructor gives for some fields.
+pub fn made(bytes: &[u8], len: usize) -> bool
+    ensures { λ r. ⌜ r ≡ madePopup (record { len = len; bytes = now (bytes .entry) }) ⌝ }
 {
-    if 55 < n {
+    if 55 < len {
         return false;
     }
-    if crate::text::zero_after(s, n) {
-        return whole_popup(&s[..n]);
+    if bytes.len() <= len {
+        return whole_popup(bytes, len);
+    }
+    if crate::text::zero_after(bytes, len) {
+        return whole_popup(&bytes[..len], len);
     }
     false
 }
@@ -332,14 +335,6 @@ impl ScreenPopup {
                 },
             },
         }
-    }
-
-    // Whether the constructor gives it for some fields.
-    pub fn made(self) -> bool
-        ensures { λ r. ⌜ r ≡ madePopup self ⌝ }
-    {
-        let b = self.bytes;
-        made_in(&b, self.len)
     }
 
     pub fn fields(self) -> FieldsAnswer

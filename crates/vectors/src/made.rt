@@ -175,11 +175,12 @@ fn is_fields(stored: &[u8], f: ScreenPopupFields) -> bool {
 // A popup's bytes; what is constructed of them is made, too.
 pub(crate) fn inspect_agrees(input: &[u8], stored: &[u8]) -> bool {
     let p = popup_of(input);
+    let b = p.bytes;
     let r = p.fields();
     let o = r.outcome;
     let f = r.fields;
     match o {
-        Outcome::Accepted => p.made() && is_fields(stored, f),
+        Outcome::Accepted => families::screen::made(&b, p.len) && is_fields(stored, f),
         Outcome::Refused(r) => is_refused(stored, r),
     }
 }

@@ -10,11 +10,17 @@ use borrow.Author.Needs.{needs}
 use Rattle.commands.proofs.DirectCommands.to_bytes.Statement.{statement}
 use Rattle.commands.proofs.DirectCommands.to_bytes.Tie as tie
 
+slice-aggregate-is-made : tie.Need-slice-aggregate-is-made
+slice-aggregate-is-made c = search needs
+
 is-made-requires : tie.Need-is-made-requires
 is-made-requires c κs = search needs
 
 returns : tie.Need-returns
-returns c = stopped (stopWriting (c .before .before .before .before .args .self) (length (now (c .before .before .before .before .args .buffer)))) (payloadOf (c .before .before .before .before .args .self)) (now (c .before .before .before .before .args .buffer)) BufferOverflow (stop-short (c .before .before .before .before .args .self) (length (now (c .before .before .before .before .args .buffer))) (sym (c .before .before .is-made .ensures) ∙ c .before .if1 .taken) (c .if2 .taken)) (omega arith)
+returns c = stopped (stopWriting (c .before .before .before .before .before .before .args .self) (length (now (c .before .before .before .before .before .before .args .buffer)))) (payloadOf (c .before .before .before .before .before .before .args .self)) (now (c .before .before .before .before .before .before .args .buffer)) BufferOverflow (stop-short (c .before .before .before .before .before .before .args .self) (length (now (c .before .before .before .before .before .before .args .buffer))) (sym (c .before .before .is-made .ensures) ∙ c .before .if1 .taken) (c .if2 .taken)) (omega arith)
+
+slice-aggregate-write-made : tie.Need-slice-aggregate-write-made
+slice-aggregate-write-made c = search needs
 
 write-made-requires : tie.Need-write-made-requires
 write-made-requires c κs = search needs
@@ -23,12 +29,20 @@ same-length : tie.Need-same-length
 same-length c = search needs
 
 returns-2 : tie.Need-returns-2
-returns-2 c = rw (stop-body (c .before .before .before .before .before .before .before .before .args .self) (length (now (c .before .before .before .before .before .before .before .before .args .buffer))) (sym (c .before .before .before .before .before .before .is-made .ensures) ∙ c .before .before .before .before .before .if1 .taken) (c .before .before .before .before .if2 .left)) (c .before .before .write-made .ensures)
+returns-2 c = rw (stop-body (c .before .before .before .before .before .before .before .before .before .before .before .args .self) (length (now (c .before .before .before .before .before .before .before .before .before .before .before .args .buffer))) (sym (c .before .before .before .before .before .before .before .is-made .ensures) ∙ c .before .before .before .before .before .before .if1 .taken) (c .before .before .before .before .before .if2 .left)) (c .before .before .write-made .ensures)
 
 returns-3 : tie.Need-returns-3
-returns-3 c = stopped (stopWriting (c .before .before .before .args .self) (length (now (c .before .before .before .args .buffer)))) (payloadOf (c .before .before .before .args .self)) (now (c .before .before .before .args .buffer)) RecordNotMade (stop-unmade (c .before .before .before .args .self) (length (now (c .before .before .before .args .buffer))) (sym (c .before .is-made .ensures) ∙ c .if1 .left)) (omega arith)
+returns-3 c = stopped (stopWriting (c .before .before .before .before .before .args .self) (length (now (c .before .before .before .before .before .args .buffer)))) (payloadOf (c .before .before .before .before .before .args .self)) (now (c .before .before .before .before .before .args .buffer)) RecordNotMade (stop-unmade (c .before .before .before .before .before .args .self) (length (now (c .before .before .before .before .before .args .buffer))) (sym (c .before .is-made .ensures) ∙ c .if1 .left)) (omega arith)
 
 pub to-bytes-spec : {M : Type 1} → statement M
 to-bytes-spec =
     tie.close
-    (tie.spec is-made-requires returns write-made-requires same-length returns-2 returns-3)
+    (tie.spec
+    slice-aggregate-is-made
+    is-made-requires
+    returns
+    slice-aggregate-write-made
+    write-made-requires
+    same-length
+    returns-2
+    returns-3)

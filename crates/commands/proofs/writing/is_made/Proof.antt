@@ -3,29 +3,11 @@ use borrow.Author.Needs.{needs}
 use Rattle.commands.proofs.writing.is_made.Statement.{statement}
 use Rattle.commands.proofs.writing.is_made.Tie as tie
 
-enum-known-p : tie.Need-enum-known-p
-enum-known-p c = search needs
-
 enum-told : tie.Need-enum-told
 enum-told c = search needs
 
-popup-made-requires : tie.Need-popup-made-requires
-popup-made-requires c κs = search needs
-
-enum-known-s : tie.Need-enum-known-s
-enum-known-s c = search needs
-
 stores-none-requires : tie.Need-stores-none-requires
 stores-none-requires c κs = search needs
-
-enum-known-p-2 : tie.Need-enum-known-p-2
-enum-known-p-2 c = search needs
-
-slice-aggregate-made : tie.Need-slice-aggregate-made
-slice-aggregate-made c = search needs
-
-made-requires : tie.Need-made-requires
-made-requires c κs = search needs
 
 enum-told-2 : tie.Need-enum-told-2
 enum-told-2 c = search needs
@@ -63,54 +45,51 @@ enum-told-7 c = search needs
 stores-none-requires-7 : tie.Need-stores-none-requires-7
 stores-none-requires-7 c κs = search needs
 
+enum-known-payload : tie.Need-enum-known-payload
+enum-known-payload c = search needs
+
+screen-made-requires : tie.Need-screen-made-requires
+screen-made-requires c κs = search needs
+
 enum-told-8 : tie.Need-enum-told-8
 enum-told-8 c = search needs
 
-stores-none-requires-8 : tie.Need-stores-none-requires-8
-stores-none-requires-8 c κs = search needs
+made-requires : tie.Need-made-requires
+made-requires c κs = search needs
 
 returns : tie.Need-returns
-returns c = rw (c .before .before .before .before .p .given .1, c .before .enum-told .given .1) (c .popup-made .ensures)
+returns c = rw (c .before .enum-told .given .1) (c .stores-none .ensures)
 
 returns-2 : tie.Need-returns-2
-returns-2 c = rw (c .before .before .before .before .before .p .given .1, c .before .before .s .given .1) (c .stores-none .ensures)
+returns-2 c = rw (c .before .enum-told2 .given .1) (c .stores-none2 .ensures)
 
 returns-3 : tie.Need-returns-3
-returns-3 c = rw (c .before .before .before .before .p2 .given .1) (c .made .ensures)
+returns-3 c = rw (c .before .enum-told3 .given .1) (c .stores-none3 .ensures)
 
 returns-4 : tie.Need-returns-4
-returns-4 c = rw (c .before .enum-told2 .given .1) (c .stores-none2 .ensures)
+returns-4 c = rw (c .before .enum-told4 .given .1) (c .stores-none4 .ensures)
 
 returns-5 : tie.Need-returns-5
-returns-5 c = rw (c .before .enum-told3 .given .1) (c .stores-none3 .ensures)
+returns-5 c = rw (c .before .enum-told5 .given .1) (c .stores-none5 .ensures)
 
 returns-6 : tie.Need-returns-6
-returns-6 c = rw (c .before .enum-told4 .given .1) (c .stores-none4 .ensures)
+returns-6 c = rw (c .before .enum-told6 .given .1) (c .stores-none6 .ensures)
 
 returns-7 : tie.Need-returns-7
-returns-7 c = rw (c .before .enum-told5 .given .1) (c .stores-none5 .ensures)
+returns-7 c = rw (c .before .enum-told7 .given .1) (c .stores-none7 .ensures)
 
 returns-8 : tie.Need-returns-8
-returns-8 c = rw (c .before .enum-told6 .given .1) (c .stores-none6 .ensures)
+returns-8 c = rw (c .before .before .payload .given .1) (c .screen-made .ensures)
 
 returns-9 : tie.Need-returns-9
-returns-9 c = rw (c .before .enum-told7 .given .1) (c .stores-none7 .ensures)
-
-returns-10 : tie.Need-returns-10
-returns-10 c = rw (c .before .enum-told8 .given .1) (c .stores-none8 .ensures)
+returns-9 c = rw (c .before .enum-told8 .given .1) (c .made .ensures)
 
 pub is-made-spec : {M : Type 1} → statement M
 is-made-spec =
     tie.close
     (tie.spec
-    enum-known-p
     enum-told
-    popup-made-requires
-    enum-known-s
     stores-none-requires
-    enum-known-p-2
-    slice-aggregate-made
-    made-requires
     enum-told-2
     stores-none-requires-2
     enum-told-3
@@ -123,8 +102,10 @@ is-made-spec =
     stores-none-requires-6
     enum-told-7
     stores-none-requires-7
+    enum-known-payload
+    screen-made-requires
     enum-told-8
-    stores-none-requires-8
+    made-requires
     returns
     returns-2
     returns-3
@@ -133,5 +114,4 @@ is-made-spec =
     returns-6
     returns-7
     returns-8
-    returns-9
-    returns-10)
+    returns-9)

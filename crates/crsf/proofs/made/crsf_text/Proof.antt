@@ -1,0 +1,62 @@
+-- A text's image out: too short a slice, a refusal, or the image. Assumes nothing.
+use native.Mathlib.Omega.{arith}
+use mathlib.Core.Path.{_≡_, ap}
+use mathlib.Core.List.{[]}
+use lib.ListN.{length}
+use denote.Ref.{now}
+use Rattle.families.specs.Text.{newText}
+use Rattle.images.specs.Text.{textImage, imageOfText}
+use Rattle.images.proofs.TextLaws.{text-size}
+use Rattle.crsf.proofs.Handed.{short, in-room, refuses, hands}
+use Rattle.crsf.proofs.MadePlain.{plain-text}
+use borrow.Author.Needs.{needs}
+use Rattle.crsf.proofs.made.crsf_text.Statement.{statement}
+use Rattle.crsf.proofs.made.crsf_text.Tie as tie
+
+refused-requires : tie.Need-refused-requires
+refused-requires c κs = search needs
+
+returns : tie.Need-returns
+returns c = short imageOfText (now (c .before .before .before .before .args .text)) (newText (now (c .before .before .before .before .args .bytes))) 52 (c .refused .result) (c .before .if1 .taken) (c .refused .ensures)
+
+new-requires : tie.Need-new-requires
+new-requires c κs = search needs
+
+enum-told : tie.Need-enum-told
+enum-told c = search needs
+
+put-requires : tie.Need-put-requires
+put-requires c κs = search needs
+
+enum-known-o : tie.Need-enum-known-o
+enum-known-o c = search needs
+
+refused-requires-2 : tie.Need-refused-requires-2
+refused-requires-2 c κs = search needs
+
+same-length : tie.Need-same-length
+same-length c = search needs
+
+returns-2 : tie.Need-returns-2
+returns-2 c = let l : length (c .before .before .before .before .before .before .before .new .result .text .bytes) ≡ 51 = search needs in
+    let a = newText (now (c .before .before .before .before .before .before .before .before .before .before .before .args .bytes)) in
+    in-room imageOfText (now (c .before .before .before .before .before .before .before .before .before .before .before .args .text)) a 52 0 _ (c .before .before .before .before .before .before .before .before .if1 .left) (hands imageOfText (now (c .before .before .before .before .before .before .before .before .before .before .before .args .text)) a [] (textImage (c .before .before .before .before .before .before .before .new .result .text)) _ (plain-text (now (c .before .before .before .before .before .before .before .before .before .before .before .args .bytes))) (rw (c .before .before .before .before .before .enum-told .given .1) at (c .before .before .before .before .before .before .before .new .ensures .0)) (ap textImage (c .before .before .before .before .before .before .before .new .ensures .1)) (omega (arith, text-size (c .before .before .before .before .before .before .before .new .result .text) l)) (c .before .before .put .ensures))
+
+returns-3 : tie.Need-returns-3
+returns-3 c = let a = newText (now (c .before .before .before .before .before .before .before .before .args .bytes)) in
+    in-room imageOfText (now (c .before .before .before .before .before .before .before .before .args .text)) a 52 (c .refused2 .result) _ (c .before .before .before .before .before .if1 .left) (refuses imageOfText (now (c .before .before .before .before .before .before .before .before .args .text)) a (c .before .before .o .given .0 .0) (c .refused2 .result) (plain-text (now (c .before .before .before .before .before .before .before .before .args .bytes))) (rw (c .before .before .o .given .1) at (c .before .before .before .before .new .ensures .0)) (c .refused2 .ensures))
+
+pub crsf-text-spec : {M : Type 1} → statement M
+crsf-text-spec =
+    tie.close
+    (tie.spec
+    refused-requires
+    returns
+    new-requires
+    enum-told
+    put-requires
+    enum-known-o
+    refused-requires-2
+    same-length
+    returns-2
+    returns-3)

@@ -1,0 +1,52 @@
+-- A popup made of fields: a refusal, or its image. Assumes nothing.
+use mathlib.Core.Path.{_≡_, ap}
+use mathlib.Core.List.{[]}
+use native.Mathlib.Omega.{arith}
+use lib.ListN.{length}
+use denote.Ref.{now}
+use Rattle.families.specs.Fields.{construct, popupOf}
+use Rattle.images.specs.Popup.{popupImage}
+use Rattle.images.proofs.PopupLaws.{popup-size}
+use Rattle.crsf.proofs.Handed.{refuses, hands}
+use Rattle.crsf.proofs.MadePlain.{plain-construct}
+use borrow.Author.Needs.{needs}
+use Rattle.crsf.proofs.made.make.Statement.{statement}
+use Rattle.crsf.proofs.made.make.Tie as tie
+
+new-requires : tie.Need-new-requires
+new-requires c κs = search needs
+
+enum-told : tie.Need-enum-told
+enum-told c = search needs
+
+put-requires : tie.Need-put-requires
+put-requires c κs = search needs
+
+enum-known-o : tie.Need-enum-known-o
+enum-known-o c = search needs
+
+refused-requires : tie.Need-refused-requires
+refused-requires c κs = search needs
+
+same-length : tie.Need-same-length
+same-length c = search needs
+
+returns : tie.Need-returns
+returns c = let l : length (c .before .before .before .before .before .before .before .new .result .popup .bytes) ≡ 55 = search needs in
+    hands popupImage (now (c .before .before .before .before .before .before .before .before .before .args .out)) (construct (c .before .before .before .before .before .before .before .before .before .args .f)) (popupOf []) (popupImage (c .before .before .before .before .before .before .before .new .result .popup)) _ (plain-construct (c .before .before .before .before .before .before .before .before .before .args .f)) (rw (c .before .before .before .before .before .enum-told .given .1) at (c .before .before .before .before .before .before .before .new .ensures .0)) (ap popupImage (c .before .before .before .before .before .before .before .new .ensures .1)) (omega (arith, popup-size (c .before .before .before .before .before .before .before .new .result .popup) l, c .before .before .before .before .before .before .before .before .before .pre)) (c .before .before .put .ensures)
+
+returns-2 : tie.Need-returns-2
+returns-2 c = refuses popupImage (now (c .before .before .before .before .before .before .args .out)) (construct (c .before .before .before .before .before .before .args .f)) (c .before .before .o .given .0 .0) (c .refused .result) (plain-construct (c .before .before .before .before .before .before .args .f)) (rw (c .before .before .o .given .1) at (c .before .before .before .before .new .ensures .0)) (c .refused .ensures)
+
+pub make-spec : {M : Type 1} → statement M
+make-spec =
+    tie.close
+    (tie.spec
+    new-requires
+    enum-told
+    put-requires
+    enum-known-o
+    refused-requires
+    same-length
+    returns
+    returns-2)

@@ -1,0 +1,6 @@
+pub mod TextLaws
+pub mod AckLaws
+pub mod PopupLaws
+pub mod FieldsPut
+pub mod FieldsLaws
+pub mod OneAnswerImages

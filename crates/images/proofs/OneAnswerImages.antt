@@ -1,0 +1,60 @@
+-- Any two answers that the contract of a public function of texts, ACKs, popups or popup fields allows coincide, and so does the lent
+-- slice. `Post` is the contract as the check reads it from the source, and no copy of it. Assumes nothing.
+use mathlib.Core.Path.{_≡_, sym, _∙_}
+use contract.Lifetimes.{Lfts}
+use borrow.Fn.Kinds.{Dens, resT, endedOf}
+use denote.Ref.{now}
+use denote.Triple.Clauses.{AtExit}
+use Rattle.codec.specs.Sheet.{Answer}
+use Rattle.codec.proofs.Outcomes.{outcome-one}
+use Rattle.families.specs.Fields.{PopupIs, FieldsIs}
+use Rattle.families.specs.declared.screen.ScreenPopup.{ScreenPopup}
+use Rattle.families.specs.declared.screen.PopupAnswer.{PopupAnswer}
+use Rattle.families.specs.declared.screen.ScreenPopupFields.{ScreenPopupFields}
+use Rattle.families.specs.declared.screen.FieldsAnswer.{FieldsAnswer}
+use Rattle.images.specs.Popup.{popupFrom}
+use Rattle.images.specs.Fields.{fieldsFrom}
+use Rattle.images.proofs.text.put.Reads as text
+use Rattle.images.proofs.text.put.Kinds as text-kinds
+use Rattle.images.proofs.ack.put.Reads as ack
+use Rattle.images.proofs.ack.put.Kinds as ack-kinds
+use Rattle.images.proofs.popup.put.Reads as popup
+use Rattle.images.proofs.popup.put.Kinds as popup-kinds
+use Rattle.images.proofs.popup.from.Reads as from-popup
+use Rattle.images.proofs.popup.from.Kinds as from-popup-kinds
+use Rattle.images.proofs.fields.put.Reads as fields
+use Rattle.images.proofs.fields.put.Kinds as fields-kinds
+use Rattle.images.proofs.fields.from.Reads as from-fields
+use Rattle.images.proofs.fields.from.Kinds as from-fields-kinds
+
+-- ---- what an answer is fixes it
+pub popup-answer-one : (a : Answer ScreenPopup) (x y : PopupAnswer) → PopupIs a x → PopupIs a y → x ≡ y
+popup-answer-one a x y p q = rw (outcome-one (x .outcome) (y .outcome) (p .0 ∙ sym (q .0)), p .1 ∙ sym (q .1))
+
+pub fields-answer-one : (a : Answer ScreenPopupFields) (x y : FieldsAnswer) → FieldsIs a x → FieldsIs a y → x ≡ y
+fields-answer-one a x y p q = rw (outcome-one (x .outcome) (y .outcome) (p .0 ∙ sym (q .0)), p .1 ∙ sym (q .1))
+
+-- ---- the functions
+pub text-one : (κs : Lfts 1) (a : Dens κs text-kinds.ps) (x y : resT text-kinds.r κs .Denot) (s t : AtExit (endedOf 1 text-kinds.ps text-kinds.r) κs)
+    → text.Post κs a x s → text.Post κs a y t → now (s .1 .0) ≡ now (t .1 .0)
+text-one κs a x y s t p q = p ∙ sym q
+
+pub ack-one : (κs : Lfts 1) (a : Dens κs ack-kinds.ps) (x y : resT ack-kinds.r κs .Denot) (s t : AtExit (endedOf 1 ack-kinds.ps ack-kinds.r) κs)
+    → ack.Post κs a x s → ack.Post κs a y t → now (s .1 .0) ≡ now (t .1 .0)
+ack-one κs a x y s t p q = p ∙ sym q
+
+pub popup-one : (κs : Lfts 1) (a : Dens κs popup-kinds.ps) (x y : resT popup-kinds.r κs .Denot) (s t : AtExit (endedOf 1 popup-kinds.ps popup-kinds.r) κs)
+    → popup.Post κs a x s → popup.Post κs a y t → now (s .1 .0) ≡ now (t .1 .0)
+popup-one κs a x y s t p q = p ∙ sym q
+
+pub from-popup-one : (κs : Lfts 1) (a : Dens κs from-popup-kinds.ps) (x y : resT from-popup-kinds.r κs .Denot) (s t : AtExit (endedOf 1 from-popup-kinds.ps from-popup-kinds.r) κs)
+    → from-popup.Post κs a x s → from-popup.Post κs a y t → x ≡ y
+from-popup-one κs a x y s t p q = popup-answer-one (popupFrom (now (a .0))) x y p q
+
+pub fields-one : (κs : Lfts 1) (a : Dens κs fields-kinds.ps) (x y : resT fields-kinds.r κs .Denot) (s t : AtExit (endedOf 1 fields-kinds.ps fields-kinds.r) κs)
+    → fields.Post κs a x s → fields.Post κs a y t → now (s .1 .0) ≡ now (t .1 .0)
+fields-one κs a x y s t p q = p ∙ sym q
+
+pub from-fields-one : (κs : Lfts 1) (a : Dens κs from-fields-kinds.ps) (x y : resT from-fields-kinds.r κs .Denot) (s t : AtExit (endedOf 1 from-fields-kinds.ps from-fields-kinds.r) κs)
+    → from-fields.Post κs a x s → from-fields.Post κs a y t → x ≡ y
+from-fields-one κs a x y s t p q = fields-answer-one (fieldsFrom (now (a .0))) x y p q

@@ -1,0 +1,4 @@
+pub mod Text
+pub mod Ack
+pub mod Popup
+pub mod Fields
