@@ -5,3 +5,6 @@ pub mod Known
 pub mod Laid
 pub mod Back
 pub mod Forth
+pub mod Examples
+pub mod Excluded
+pub mod OneAnswer

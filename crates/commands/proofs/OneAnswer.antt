@@ -1,0 +1,32 @@
+-- Any two answers that a public function's contract allows coincide, and so do the bytes that it leaves in a lent slice. `Post` is
+-- the contract as the check reads it from the source, and no copy of it. Assumes nothing.
+use mathlib.Core.Path.{_≡_, sym, _∙_}
+use lib.ListN.{length}
+use contract.Lifetimes.{Lfts}
+use borrow.Fn.Kinds.{Dens, resT, endedOf}
+use denote.Triple.Clauses.{AtExit}
+use denote.Ref.{now}
+use Rattle.codec.specs.Sheet.{Answer}
+use Rattle.codec.proofs.Outcomes.{outcome-one}
+use Rattle.codec.proofs.Writes.{writes-one}
+use Rattle.commands.specs.Reading.{readCommand, CommandIs}
+use Rattle.commands.specs.Writing.{payloadOf, stopWriting}
+use Rattle.commands.specs.declared.DirectCommands.{DirectCommands}
+use Rattle.commands.specs.declared.CommandAnswer.{CommandAnswer}
+use Rattle.commands.proofs.DirectCommands.from_bytes.Reads as read
+use Rattle.commands.proofs.DirectCommands.from_bytes.Kinds as read-kinds
+use Rattle.commands.proofs.DirectCommands.to_bytes.Reads as write
+use Rattle.commands.proofs.DirectCommands.to_bytes.Kinds as write-kinds
+
+answer-one : (a : Answer DirectCommands) (x y : CommandAnswer) → CommandIs a x → CommandIs a y → x ≡ y
+answer-one a x y p q = rw (outcome-one (x .outcome) (y .outcome) (p .0 ∙ sym (q .0)), p .1 ∙ sym (q .1))
+
+pub from-bytes-one : (κs : Lfts 1) (a : Dens κs read-kinds.ps) (x y : resT read-kinds.r κs .Denot) (s t : AtExit (endedOf 1 read-kinds.ps read-kinds.r) κs)
+    → read.Post κs a x s → read.Post κs a y t → x ≡ y
+from-bytes-one κs a x y s t p q = answer-one (readCommand (now (a .0))) x y p q
+
+pub to-bytes-one : (κs : Lfts 1) (a : Dens κs write-kinds.ps) (x y : resT write-kinds.r κs .Denot) (s t : AtExit (endedOf 1 write-kinds.ps write-kinds.r) κs)
+    → write.Post κs a x s → write.Post κs a y t → (x ≡ y) × (now (s .1 .0) ≡ now (t .1 .0))
+to-bytes-one κs a x y s t p q =
+    let buffer = now (a .1 .0) in
+    writes-one (stopWriting (a .0) (length buffer)) (payloadOf (a .0)) x y buffer (now (s .1 .0)) (now (t .1 .0)) p q
