@@ -45,7 +45,7 @@ plain-zero (got x) b g h = refl
 plain-zero (refused n p) b g h = let l = g n p refl .0 in absurd (omega arith)
 
 -- ---- the word of a refusal
-refusal-word : (r : Refusal) → refusalNumber r % 256 + 0 % 256 * 256 + 0 % 65536 * 65536 ≡ refusalNumber r
+pub refusal-word : (r : Refusal) → refusalNumber r % 256 + 0 % 256 * 256 + 0 % 65536 * 65536 ≡ refusalNumber r
 refusal-word InvalidPayloadLength = refl
 refusal-word InvalidPayload = refl
 refusal-word BufferOverflow = refl

@@ -1,4 +1,5 @@
 // The functions that C and Rust call: numbers and byte slices only (include/crsf.h).
+mod command;
 mod made;
 
 ghost use mathlib.Core.Path.{_≡_};

@@ -20,7 +20,7 @@ use families::screen::ScreenPopupFields;
 use families::text::CommandString;
 
 // A refusal's word: its number, no count, place 0.
-fn refused(r: Refusal) -> u32
+pub(crate) fn refused(r: Refusal) -> u32
     ensures { λ n. ⌜ n ≡ refusalNumber r ⌝ }
 {
     codec::refusal::number(r) as u32

@@ -4,3 +4,5 @@ pub mod PopupLaws
 pub mod FieldsPut
 pub mod FieldsLaws
 pub mod OneAnswerImages
+pub mod Same
+pub mod RecordLaws

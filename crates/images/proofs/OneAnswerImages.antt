@@ -1,5 +1,5 @@
--- Any two answers that the contract of a public function of texts, ACKs, popups or popup fields allows coincide, and so does the lent
--- slice. `Post` is the contract as the check reads it from the source, and no copy of it. Assumes nothing.
+-- Any two answers that the contract of a public function of texts, ACKs, popups, popup fields or records allows coincide, and so does the
+-- lent slice. `Post` is the contract as the check reads it from the source, and no copy of it. Assumes nothing.
 use mathlib.Core.Path.{_≡_, sym, _∙_}
 use contract.Lifetimes.{Lfts}
 use borrow.Fn.Kinds.{Dens, resT, endedOf}
@@ -12,8 +12,12 @@ use Rattle.families.specs.declared.screen.ScreenPopup.{ScreenPopup}
 use Rattle.families.specs.declared.screen.PopupAnswer.{PopupAnswer}
 use Rattle.families.specs.declared.screen.ScreenPopupFields.{ScreenPopupFields}
 use Rattle.families.specs.declared.screen.FieldsAnswer.{FieldsAnswer}
+use Rattle.commands.specs.Reading.{CommandIs}
+use Rattle.commands.specs.declared.DirectCommands.{DirectCommands}
+use Rattle.commands.specs.declared.CommandAnswer.{CommandAnswer}
 use Rattle.images.specs.Popup.{popupFrom}
 use Rattle.images.specs.Fields.{fieldsFrom}
+use Rattle.images.specs.Record.{recordFrom}
 use Rattle.images.proofs.text.put.Reads as text
 use Rattle.images.proofs.text.put.Kinds as text-kinds
 use Rattle.images.proofs.ack.put.Reads as ack
@@ -26,6 +30,10 @@ use Rattle.images.proofs.fields.put.Reads as fields
 use Rattle.images.proofs.fields.put.Kinds as fields-kinds
 use Rattle.images.proofs.fields.from.Reads as from-fields
 use Rattle.images.proofs.fields.from.Kinds as from-fields-kinds
+use Rattle.images.proofs.record.put.Reads as put-record
+use Rattle.images.proofs.record.put.Kinds as put-record-kinds
+use Rattle.images.proofs.record.from.Reads as from-record
+use Rattle.images.proofs.record.from.Kinds as from-record-kinds
 
 -- ---- what an answer is fixes it
 pub popup-answer-one : (a : Answer ScreenPopup) (x y : PopupAnswer) → PopupIs a x → PopupIs a y → x ≡ y
@@ -33,6 +41,9 @@ popup-answer-one a x y p q = rw (outcome-one (x .outcome) (y .outcome) (p .0 ∙
 
 pub fields-answer-one : (a : Answer ScreenPopupFields) (x y : FieldsAnswer) → FieldsIs a x → FieldsIs a y → x ≡ y
 fields-answer-one a x y p q = rw (outcome-one (x .outcome) (y .outcome) (p .0 ∙ sym (q .0)), p .1 ∙ sym (q .1))
+
+pub command-answer-one : (a : Answer DirectCommands) (x y : CommandAnswer) → CommandIs a x → CommandIs a y → x ≡ y
+command-answer-one a x y p q = rw (outcome-one (x .outcome) (y .outcome) (p .0 ∙ sym (q .0)), p .1 ∙ sym (q .1))
 
 -- ---- the functions
 pub text-one : (κs : Lfts 1) (a : Dens κs text-kinds.ps) (x y : resT text-kinds.r κs .Denot) (s t : AtExit (endedOf 1 text-kinds.ps text-kinds.r) κs)
@@ -58,3 +69,11 @@ fields-one κs a x y s t p q = p ∙ sym q
 pub from-fields-one : (κs : Lfts 1) (a : Dens κs from-fields-kinds.ps) (x y : resT from-fields-kinds.r κs .Denot) (s t : AtExit (endedOf 1 from-fields-kinds.ps from-fields-kinds.r) κs)
     → from-fields.Post κs a x s → from-fields.Post κs a y t → x ≡ y
 from-fields-one κs a x y s t p q = fields-answer-one (fieldsFrom (now (a .0))) x y p q
+
+pub put-record-one : (κs : Lfts 1) (a : Dens κs put-record-kinds.ps) (x y : resT put-record-kinds.r κs .Denot) (s t : AtExit (endedOf 1 put-record-kinds.ps put-record-kinds.r) κs)
+    → put-record.Post κs a x s → put-record.Post κs a y t → now (s .1 .0) ≡ now (t .1 .0)
+put-record-one κs a x y s t p q = p ∙ sym q
+
+pub from-record-one : (κs : Lfts 1) (a : Dens κs from-record-kinds.ps) (x y : resT from-record-kinds.r κs .Denot) (s t : AtExit (endedOf 1 from-record-kinds.ps from-record-kinds.r) κs)
+    → from-record.Post κs a x s → from-record.Post κs a y t → x ≡ y
+from-record-one κs a x y s t p q = command-answer-one (recordFrom (now (a .0))) x y p q

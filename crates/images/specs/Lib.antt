@@ -2,3 +2,5 @@ pub mod Text
 pub mod Ack
 pub mod Popup
 pub mod Fields
+pub mod Values
+pub mod Record

@@ -2,4 +2,6 @@
 pub mod ack;
 pub mod fields;
 pub mod popup;
+pub mod record;
 pub mod text;
+mod values;

@@ -1,0 +1,79 @@
+-- The record of an image: another length, another image, or its parts. Assumes nothing.
+use mathlib.Core.Bool.{true, false}
+use native.Mathlib.Omega.{arith}
+use denote.Ref.{now}
+use Rattle.codec.specs.Sheet.{got, refused}
+use Rattle.images.specs.Record.{recordAt, recordFrom}
+use Rattle.images.proofs.RecordLaws.{from-other, from-laid, told, record-got}
+use borrow.Author.Needs.{needs}
+use Rattle.images.proofs.record.from.Statement.{statement}
+use Rattle.images.proofs.record.from.Tie as tie
+
+not-made-requires : tie.Need-not-made-requires
+not-made-requires c κs = search needs
+
+returns : tie.Need-returns
+returns c = told (recordFrom (now (c .before .before .before .args .image))) (refused 5 0) (c .not-made .result) (from-other (now (c .before .before .before .args .image)) (c .before .if1 .taken)) (c .not-made .ensures)
+
+payload-at-requires : tie.Need-payload-at-requires
+payload-at-requires c κs = search needs
+
+is-laid-requires : tie.Need-is-laid-requires
+is-laid-requires c κs = search needs
+
+sub-copy : tie.Need-sub-copy
+sub-copy c = search needs
+
+part-copy-start : tie.Need-part-copy-start
+part-copy-start c = search needs
+
+part-copy-end : tie.Need-part-copy-end
+part-copy-end c = search needs
+
+slice-aggregate-copy : tie.Need-slice-aggregate-copy
+slice-aggregate-copy c = search needs
+
+copy-requires : tie.Need-copy-requires
+copy-requires c κs = search needs
+
+shared-slice-read-t16 : tie.Need-shared-slice-read-t16
+shared-slice-read-t16 c = search needs
+
+shared-slice-read-t18 : tie.Need-shared-slice-read-t18
+shared-slice-read-t18 c = search needs
+
+shared-slice-read-t20 : tie.Need-shared-slice-read-t20
+shared-slice-read-t20 c = search needs
+
+cast-t7 : tie.Need-cast-t7
+cast-t7 c = omega (arith, c .shared-slice-known4 .given 14)
+
+returns-2 : tie.Need-returns-2
+returns-2 c = record-got (now (c .before .before .before .before .before .before .before .before .before .before .before .before .args .image)) _ (c .before .before .before .before .before .before .before .before .before .payload-at .result) (c .before .before .before .before .before .before .before .before .before .before .if1 .left) (c .before .before .before .before .before .before .before .before .before .payload-at .ensures) (from-laid (now (c .before .before .before .before .before .before .before .before .before .before .before .before .args .image)) (c .before .before .before .before .before .before .before .before .before .payload-at .result) true (c .before .before .before .before .before .before .before .before .is-laid .result) (c .before .before .before .before .before .before .before .before .before .before .if1 .left) (omega (arith, c .before .before .before .before .before .before .before .before .before .before .before .shared-slice-known .given 14)) (c .before .before .before .before .before .before .before .before .before .payload-at .ensures) (c .before .before .before .before .before .before .before .before .is-laid .ensures) (c .before .before .before .before .before .before .before .if2 .taken)) (c .before .before .before .before .copy .ensures .1)
+
+not-made-requires-2 : tie.Need-not-made-requires-2
+not-made-requires-2 c κs = search needs
+
+returns-3 : tie.Need-returns-3
+returns-3 c = told (recordFrom (now (c .before .before .before .before .before .before .args .image))) (refused 5 0) (c .not-made2 .result) (from-laid (now (c .before .before .before .before .before .before .args .image)) (c .before .before .before .payload-at .result) false (c .before .before .is-laid .result) (c .before .before .before .before .if1 .left) (omega (arith, c .before .before .before .before .before .shared-slice-known .given 14)) (c .before .before .before .payload-at .ensures) (c .before .before .is-laid .ensures) (c .before .if2 .left)) (c .not-made2 .ensures)
+
+pub from-spec : {M : Type 1} → statement M
+from-spec =
+    tie.close
+    (tie.spec
+    not-made-requires
+    returns
+    payload-at-requires
+    is-laid-requires
+    sub-copy
+    part-copy-start
+    part-copy-end
+    slice-aggregate-copy
+    copy-requires
+    shared-slice-read-t16
+    shared-slice-read-t18
+    shared-slice-read-t20
+    cast-t7
+    returns-2
+    not-made-requires-2
+    returns-3)
