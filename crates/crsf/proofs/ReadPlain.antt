@@ -6,7 +6,7 @@ use lib.ListN.{length, take, drop, getD}
 use lib.Dec.{leb, ltb, eqb}
 use Rattle.crc.specs.Check.{payloadCheck}
 use Rattle.codec.specs.Digits.{split, numberOf}
-use Rattle.codec.specs.Sheet.{Item, packed, text, Row, row, Said, said, byte, first, widths, sizeOf, got}
+use Rattle.codec.specs.Sheet.{Item, packed, text, Row, row, Said, said, byte, first, widths, sizeOf}
 use Rattle.codec.specs.Reading.{within, before0, shorter, readItem, readItems, readRow, readBody, endOf}
 use Rattle.families.specs.Sheets.{fcRows, osdRows, vtxRows, ledRows, generalRows, crossfireRows, flowRows, screenRows}
 use Rattle.families.specs.Fc.{fcOf}

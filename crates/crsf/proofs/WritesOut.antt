@@ -17,7 +17,7 @@ use Rattle.commands.specs.Writing.{payloadOf, stopWriting}
 use Rattle.commands.specs.declared.DirectCommands.{DirectCommands}
 use Rattle.commands.specs.declared.CommandAnswer.{CommandAnswer}
 use Rattle.crsf.specs.Word.{answerWord}
-use Rattle.crsf.specs.Command.{writtenInto, WritesOut}
+use Rattle.crsf.specs.Command.{WritesOut}
 use Rattle.crsf.proofs.Handed.{Plain, plain-zero, refusal-word}
 
 module _ (a : Answer DirectCommands) (g : Plain a) (x : CommandAnswer) (i : CommandIs a x) where

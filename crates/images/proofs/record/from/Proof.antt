@@ -2,8 +2,8 @@
 use mathlib.Core.Bool.{true, false}
 use native.Mathlib.Omega.{arith}
 use denote.Ref.{now}
-use Rattle.codec.specs.Sheet.{got, refused}
-use Rattle.images.specs.Record.{recordAt, recordFrom}
+use Rattle.codec.specs.Sheet.{refused}
+use Rattle.images.specs.Record.{recordFrom}
 use Rattle.images.proofs.RecordLaws.{from-other, from-laid, told, record-got}
 use borrow.Author.Needs.{needs}
 use Rattle.images.proofs.record.from.Statement.{statement}
