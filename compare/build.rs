@@ -1,4 +1,4 @@
-//! Links libcrsf.a and libbodies.a from target/staticlib, or from the folder that CRSF_ARCHIVE names.
+//! Links libcrsf.a and libagain.a from target/staticlib, or from the folder that CRSF_ARCHIVE names.
 use std::env;
 use std::path::PathBuf;
 
@@ -11,7 +11,7 @@ fn main() {
         }
     };
     println!("cargo:rustc-link-search=native={}", folder.display());
-    for name in ["crsf", "bodies"] {
+    for name in ["crsf", "again"] {
         let archive = folder.join(format!("lib{name}.a"));
         if !archive.is_file() {
             panic!(

@@ -1,260 +1,211 @@
-//! Input for both sides, near every limit of document 01. Text bytes are 0x20 and above.
-use crate::answers::{self, Fields, Image};
-use crate::Random;
+//! Random input near every limit of document 01.
+use crate::fields;
+use crate::image::{self, Image, ACK, GENERAL, LED, SCREEN, VTX};
+use crate::popups::{near, text, Popup};
+use crate::random::Random;
+use crate::theirs;
 
-/// The sub-commands of each family, and how many bytes of values their images hold.
-fn rows(family: u8) -> &'static [(u8, usize)] {
-    match family {
-        answers::FC => &[(0x01, 0), (0x02, 0)],
-        answers::OSD => &[(0x01, 1)],
-        answers::VTX => &[(0x02, 2), (0x04, 3), (0x05, 0), (0x06, 1), (0x08, 1)],
-        answers::LED => &[(0x01, 0), (0x02, 4), (0x03, 10), (0x04, 10), (0x05, 6)],
-        answers::GENERAL => &[(0x70, 5), (0x71, 2)],
-        answers::CROSSFIRE => &[
-            (0x01, 0),
-            (0x02, 0),
-            (0x03, 0),
-            (0x05, 1),
-            (0x06, 0),
-            (0x07, 1),
-            (0x0A, 0),
-            (0x0B, 0),
-            (0x0C, 0),
-            (0x0D, 0),
-        ],
-        answers::FLOW_CONTROL => &[(0x01, 3), (0x02, 1)],
-        answers::SCREEN => &[(0x01, 0), (0x02, 2)],
-        answers::ACK => &[(0x00, 3)],
-        other => panic!("{other:02X} is no family"),
-    }
+/// A flag byte, mostly in range.
+fn flag(random: &mut Random) -> u8 {
+    random.chosen(&[0, 1, 0, 1, 0, 1, 2, 255])
 }
 
-fn chosen<T: Copy>(random: &mut Random, from: &[T]) -> T {
-    from[random.below(from.len())]
+fn frequency(random: &mut Random) -> u16 {
+    let any = 4995 + random.below(1011) as u16;
+    random.chosen(&[4999, 5000, 5001, 5999, 6000, 6001, any, any, any])
 }
 
-/// Bytes that a text may hold.
-pub fn text_bytes(random: &mut Random, len: usize) -> Vec<u8> {
-    (0..len)
-        .map(|_| 0x20 + (random.number() % 0xE0) as u8)
-        .collect()
-}
-
-/// A length near one of these limits, or any up to the last.
-fn length(random: &mut Random, limits: &[usize]) -> usize {
-    let limit = chosen(random, limits);
-    match random.below(4) {
-        0 => random.below(limits[limits.len() - 1] + 1),
-        1 => limit.saturating_sub(random.below(3)),
-        _ => limit + random.below(2),
-    }
-}
-
-fn color(random: &mut Random) -> [u8; 4] {
-    let hue: u16 = match random.below(4) {
-        0 => chosen(random, &[0, 358, 359, 360, 511, 512, 65535]),
+/// Hue, saturation, value.
+fn color(random: &mut Random) -> (u16, u8, u8) {
+    let hue = match random.below(4) {
+        0 => random.chosen(&[0, 358, 359, 360, 511, 512, 65535]),
         _ => random.below(360) as u16,
     };
     let percent = |random: &mut Random| match random.below(6) {
-        0 => chosen(random, &[0, 99, 100, 101, 127, 128, 255]),
+        0 => random.chosen(&[0, 99, 100, 101, 127, 128, 255]),
         _ => random.below(101) as u8,
     };
-    let [high, low] = hue.to_be_bytes();
-    [high, low, percent(random), percent(random)]
+    (hue, percent(random), percent(random))
 }
 
-/// A command's image, its values in range or near their limits; of a popup, one that is made.
-pub fn image(random: &mut Random, family: u8) -> Image {
-    let (sub, len) = chosen(random, rows(family));
-    let mut image = Image {
-        sub,
-        ..Image::default()
+/// As an image holds it.
+pub fn color_in_image((hue, saturation, value): (u16, u8, u8)) -> [u8; 4] {
+    let [high, low] = hue.to_be_bytes();
+    [high, low, saturation, value]
+}
+
+/// As a payload holds it: 9 bits, 7 bits, 8 bits.
+pub fn color_in_payload((hue, saturation, value): (u16, u8, u8)) -> [u8; 3] {
+    let [high, low] = (hue << 7 | u16::from(saturation & 0x7F)).to_be_bytes();
+    [high, low, value]
+}
+
+/// The fields of a popup, as an image, and whatever bytes in the places of absent items.
+pub fn fields(random: &mut Random) -> fields::Image {
+    let mut image = loop {
+        if let Some(fields) = Popup::random(random).fields() {
+            break fields::of(&fields);
+        }
     };
-    for (place, byte) in image.values.iter_mut().zip(random.bytes(len)) {
-        *place = byte;
-    }
-    match (family, sub) {
-        (answers::VTX, 0x02) => {
-            let any = 4995 + random.below(1011) as u16;
-            let frequency = chosen(random, &[4999, 5000, 5001, 5999, 6000, 6001, any, any, any]);
-            image.values[..2].copy_from_slice(&frequency.to_be_bytes());
+    if random.once_in(2) {
+        for place in fields::absent(&image) {
+            image[place] = random.byte();
         }
-        (answers::VTX, 0x04) => {
-            image.values[0] = random.below(2) as u8;
-            image.values[1] = random.below(5) as u8;
-            image.values[2] = random.below(18) as u8;
-        }
-        (answers::LED, 0x02) => image.values[..4].copy_from_slice(&color(random)),
-        (answers::LED, 0x03 | 0x04) => {
-            image.values[2..6].copy_from_slice(&color(random));
-            image.values[6..10].copy_from_slice(&color(random));
-        }
-        (answers::LED, 0x05) => image.values[2..6].copy_from_slice(&color(random)),
-        (answers::GENERAL, 0x71) | (answers::SCREEN, 0x02) => {
-            image.values[1] = random.below(2) as u8;
-        }
-        (answers::SCREEN, 0x01) => loop {
-            if let Ok(bytes) = answers::popup(&fields(random)) {
-                image.stored = bytes;
-                break;
-            }
-        },
-        (answers::ACK, _) => {
-            image.values[2] = random.below(4) as u8;
-            let len = length(random, &[0, 52]).min(52);
-            image.stored = text_bytes(random, len);
-        }
-        _ => {}
     }
     image
 }
 
-/// A popup's fields whose texts can be made, near the room of 55 bytes.
-pub fn fields(random: &mut Random) -> Fields {
-    let mut left = length(random, &[20, 44, 51]);
-    let mut text = |random: &mut Random| {
-        let len = match random.below(3) {
-            0 => left,
-            _ => random.below(left + 1),
+/// The bytes of a popup that is made.
+fn popup(random: &mut Random) -> Vec<u8> {
+    loop {
+        let mut popup = [0; fields::POPUP_SIZE];
+        if (theirs::RUST.popup)(&fields(random), &mut popup) == 0 {
+            return popup[1..=usize::from(popup[0])].to_vec();
         }
-        .min(51);
-        left -= len.min(left);
-        text_bytes(random, len)
-    };
-    let header = text(random);
-    let info = text(random);
-    let kind = random.below(3) as u8;
-    let (label, unit) = if kind == 2 {
-        (text(random), text(random))
-    } else {
-        (Vec::new(), Vec::new())
-    };
-    let numbers = if kind == 2 {
-        std::array::from_fn(|_| random.number() as u8)
-    } else {
-        [0; 4]
-    };
-    Fields {
-        header,
-        info,
-        timeout: random.number() as u8,
-        close: random.below(2) == 1,
-        kind,
-        label,
-        numbers,
-        unit,
-        values: (random.below(2) == 1).then(|| text(random)),
     }
 }
 
-/// A popup's data, item by item, whatever its lengths: texts near 51, a close flag of 2, texts without an end.
-fn popup_data(random: &mut Random) -> Vec<u8> {
-    let mut data = Vec::new();
-    let text = |random: &mut Random, data: &mut Vec<u8>, limits: &[usize]| {
-        let len = length(random, limits);
-        data.extend(text_bytes(random, len));
-        if random.below(24) != 0 {
-            data.push(0);
-        }
-    };
-    let short = random.below(4) != 0;
-    let limits: &[usize] = if short { &[0, 3, 9] } else { &[0, 20, 51] };
-    text(random, &mut data, limits);
-    text(random, &mut data, limits);
-    data.push(random.number() as u8);
-    data.push(chosen(random, &[0, 1, 0, 1, 0, 1, 2, 255]));
-    match random.below(3) {
-        0 => {}
-        1 => data.push(0),
-        _ => {
-            text(random, &mut data, &[1, 5, if short { 12 } else { 51 }]);
-            data.extend(random.bytes(4));
-            text(random, &mut data, &[0, 3]);
-        }
-    }
-    if random.below(2) == 1 {
-        text(random, &mut data, &[0, 5, if short { 20 } else { 51 }]);
-    }
-    data
-}
-
-/// A body: what the Rust writes of a command, or a popup's or an ACK's items of any length; whole, cut, longer or damaged.
-pub fn body(random: &mut Random, family: u8) -> Vec<u8> {
-    let mut body = match family {
-        answers::SCREEN if random.below(4) != 0 => {
-            let mut body = vec![0x01];
-            body.extend(popup_data(random));
-            body
-        }
-        answers::ACK => {
-            let mut body = random.bytes(2);
-            body.push(chosen(random, &[0, 1, 0, 1, 2, 255]));
-            let len = length(random, &[0, 1, 52, 57]);
-            body.extend(text_bytes(random, len));
-            if random.below(8) != 0 {
-                body.push(0);
-            }
-            body
-        }
-        _ => {
-            let image = image(random, family);
-            match answers::write(family, &image, 60) {
-                Some(Ok(body)) => body,
-                // out of range: the same command from the values' own bytes
-                _ => [&[image.sub], &image.values[..]].concat(),
+/// A record of a kind that the Rust can hold, its values in range or near their limits.
+pub fn record(random: &mut Random, (id, sub, len): (u8, u8, usize)) -> Image {
+    let mut values = random.bytes(len);
+    let mut stored = Vec::new();
+    match (id, sub) {
+        (VTX, 0x02) => values.copy_from_slice(&frequency(random).to_be_bytes()),
+        (VTX, 0x04) => {
+            values[0] = random.below(2) as u8;
+            if !random.once_in(8) {
+                values[1] = random.below(5) as u8;
+                values[2] = random.below(18) as u8;
             }
         }
-    };
-    let filler = |random: &mut Random| match random.below(3) {
-        0 => 0,
-        _ => 0x20 + (random.number() % 0xE0) as u8,
-    };
-    match random.below(8) {
-        0 => body.truncate(random.below(body.len() + 1)),
-        1 => {
-            let more = random.below(5);
-            body.extend((0..more).map(|_| filler(random)));
-        }
-        2 if !body.is_empty() => {
-            let place = random.below(body.len());
-            body[place] = filler(random);
-        }
-        3 if !body.is_empty() && family != answers::ACK => {
-            body[0] = random.number() as u8;
-        }
-        4 if family != answers::SCREEN => {
-            let place = random.below(body.len().max(1));
-            if let Some(byte) = body.get_mut(place) {
-                *byte = random.number() as u8;
+        (LED, _) => {
+            let time = len % 4;
+            for place in values[time..].chunks_exact_mut(4) {
+                place.copy_from_slice(&color_in_image(color(random)));
             }
+        }
+        (GENERAL, 0x71) | (SCREEN, 0x02) => values[1] = random.below(2) as u8,
+        (SCREEN, 0x01) => stored = popup(random),
+        (ACK, _) => {
+            values[2] = random.chosen(&[0, 1, 0, 1, 2, 255]);
+            let len = near(random, &[0, 52]).min(52);
+            stored = text(random, len);
         }
         _ => {}
+    }
+    let mut record = image::with(id, sub, &[&values], &stored);
+    record[0] = random.byte();
+    record[1] = random.byte();
+    record
+}
+
+/// An ACK's body: information near 52 bytes, mostly with its end.
+fn ack_body(random: &mut Random) -> Vec<u8> {
+    let mut body = random.bytes(2);
+    body.push(flag(random));
+    let len = near(random, &[0, 1, 52, 53]);
+    body.extend(text(random, len));
+    if !random.once_in(8) {
+        body.push(0);
     }
     body
 }
 
-/// Bytes for a text's constructor: near 51, now and then with a zero.
-pub fn text(random: &mut Random) -> Vec<u8> {
-    let len = length(random, &[0, 51, 70]);
-    holed(random, len)
+/// A body of a kind, item by item, its values in range or near their limits.
+fn body(random: &mut Random, (id, sub, len): (u8, u8, usize)) -> Vec<u8> {
+    let mut items = match (id, sub) {
+        (ACK, _) => return ack_body(random),
+        (VTX, 0x02) => frequency(random).to_be_bytes().to_vec(),
+        (VTX, 0x04) => random.bytes(1),
+        (LED, _) => {
+            let mut items = random.bytes(len % 4);
+            for _ in 0..len / 4 {
+                items.extend(color_in_payload(color(random)));
+            }
+            items
+        }
+        (GENERAL, 0x71) | (SCREEN, 0x02) => vec![random.byte(), flag(random)],
+        (SCREEN, 0x01) => Popup::random(random).data(),
+        _ => random.bytes(len),
+    };
+    items.insert(0, sub);
+    items
 }
 
-/// An ACK's ids and action, and information near 52, now and then with a zero.
-pub fn ack(random: &mut Random) -> ([u8; 3], Vec<u8>) {
-    let len = length(random, &[0, 52, 70]);
-    let information = holed(random, len);
-    let action = chosen(random, &[0, 1, 0, 1, 2, 255]);
-    (
-        [random.number() as u8, random.number() as u8, action],
-        information,
-    )
+/// Whole three times in eight; else cut, longer, with another byte, or of any length.
+fn damage(random: &mut Random, body: &mut Vec<u8>) {
+    let place = random.below(body.len().max(1));
+    match random.below(8) {
+        0 => body.truncate(place),
+        1 => {
+            let more = 1 + random.below(5);
+            body.extend((0..more).map(|_| random.chosen(&[0, 0, 1, 0x41, 0xFF])));
+        }
+        2 | 3 => {
+            let other = random.byte();
+            body[place] = random.chosen(&[0, 1, 2, other, other]);
+        }
+        4 => body.resize(random.below(61), random.chosen(&[0, 0x41])),
+        _ => {}
+    }
 }
 
+/// A payload with the check that the Rust gives it.
+pub fn payload(addresses: [u8; 2], id: u8, body: &[u8]) -> Vec<u8> {
+    let mut payload = Vec::with_capacity(body.len() + 4);
+    payload.extend(addresses);
+    payload.push(id);
+    payload.extend(body);
+    payload.push(theirs::payload_check(&payload));
+    payload
+}
+
+/// A payload of 0 to 64 bytes, near one of a kind: mostly with the right check, now and then with another id, cut, or any bytes.
+pub fn near_payload(random: &mut Random, kind: (u8, u8, usize)) -> Vec<u8> {
+    let mut body = body(random, kind);
+    damage(random, &mut body);
+    body.truncate(60);
+    let id = match random.below(32) {
+        0 => random.byte(),
+        1 => random.chosen(&image::FAMILIES),
+        _ => kind.0,
+    };
+    let mut payload = payload([random.byte(), random.byte()], id, &body);
+    match random.below(16) {
+        0 => {
+            let place = random.below(payload.len());
+            payload[place] ^= 1 << random.below(8);
+        }
+        1 => payload.truncate(random.below(payload.len() + 1)),
+        2 => {
+            let len = random.below(65);
+            payload = random.bytes(len);
+        }
+        _ => {}
+    }
+    payload
+}
+
+/// Text bytes with now and then a zero among them.
 fn holed(random: &mut Random, len: usize) -> Vec<u8> {
-    let mut bytes = text_bytes(random, len);
-    if len > 0 && random.below(4) == 0 {
+    let mut bytes = text(random, len);
+    if len > 0 && random.once_in(4) {
         let place = random.below(len);
         bytes[place] = 0;
     }
     bytes
+}
+
+/// Bytes for a text's constructor, near 51.
+pub fn text_bytes(random: &mut Random) -> Vec<u8> {
+    let len = near(random, &[0, 51, 70]);
+    holed(random, len)
+}
+
+/// An ACK's ids and action, and information near 52.
+pub fn ack(random: &mut Random) -> ([u8; 3], Vec<u8>) {
+    let len = near(random, &[0, 52, 70]);
+    let information = holed(random, len);
+    let ids = [random.byte(), random.byte(), flag(random)];
+    (ids, information)
 }

@@ -1,22 +1,97 @@
-//! Any slice and any start has an answer: none, a null pointer, and one far longer than a payload.
-use compare::{ours, theirs};
+//! Any slice has an answer: none, a null pointer, too short a one for an image, and one far longer than a payload.
+use compare::both::LENT;
+use compare::ours::OURS;
+use compare::side::Side;
+use compare::theirs::RUST;
 
 extern "C" {
     fn crsf_check(bytes: *const u8, len: usize, start: u8) -> u8;
+    fn crsf_read(payload: *const u8, len: usize, record: *mut u8, record_len: usize) -> u32;
+    fn crsf_write(record: *const u8, record_len: usize, buffer: *mut u8, len: usize) -> u32;
 }
 
 #[test]
 fn no_bytes_leave_the_start() {
     for start in 0..=255 {
-        assert_eq!(ours::check(&[], start), start);
+        assert_eq!((OURS.check)(&[], start), start);
         assert_eq!(unsafe { crsf_check(std::ptr::null(), 0, start) }, start);
     }
 }
 
 #[test]
 fn a_megabyte_has_the_check_that_the_rust_gives_it() {
-    let mut message = vec![0xFF; 1 << 20];
-    let ours = ours::check(&message, 0xFF);
-    message[0] ^= 0xFF;
-    assert_eq!(ours, theirs::check(&message));
+    let message = vec![0xFF; 1 << 20];
+    assert_eq!((OURS.check)(&message, 0xFF), (RUST.check)(&message, 0xFF));
+}
+
+#[test]
+fn null_pointers_with_length_0_are_slices() {
+    let (none, nothing) = (std::ptr::null(), std::ptr::null_mut());
+    assert_eq!(unsafe { crsf_read(none, 0, nothing, 0) }, 3);
+    assert_eq!(unsafe { crsf_write(none, 0, nothing, 0) }, 5);
+    let mut record = [LENT; 70];
+    assert_eq!(unsafe { crsf_read(none, 0, record.as_mut_ptr(), 70) }, 1);
+    assert_eq!(record, [LENT; 70]);
+}
+
+#[test]
+fn a_megabyte_of_payload_is_refused_and_one_of_buffer_is_written_at_its_front() {
+    let mut record = [0; 70];
+    assert_eq!((OURS.read)(&vec![0x01; 1 << 20], &mut record), 1);
+    assert_eq!((OURS.text)(&vec![0x01; 1 << 20], &mut [0; 52]), 1);
+    assert_eq!((OURS.ack)([0; 3], &vec![0; 1 << 20], &mut [0; 56]), 1);
+    record[2..4].copy_from_slice(&[0x01, 0x01]);
+    let mut buffer = vec![LENT; 1 << 20];
+    assert_eq!((OURS.write)(&record, &mut buffer), 5 << 8);
+    assert!(buffer[5..].iter().all(|byte| *byte == LENT));
+}
+
+/// "An image handed out needs at least its bytes: a shorter slice is 3, before all else; in a longer one the rest keeps its bytes."
+#[test]
+fn an_image_needs_its_bytes_and_no_more() {
+    type Call = fn(&Side, &mut [u8]) -> u32;
+    let images: [(usize, Call, Call); 5] = [
+        (
+            70,
+            |side, lent| (side.read)(&[0xC8, 0xEA, 0x01, 0x01, 0xFE], lent),
+            |side, lent| (side.read)(&[], lent),
+        ),
+        (
+            52,
+            |side, lent| (side.text)(b"text", lent),
+            |side, lent| (side.text)(&[0], lent),
+        ),
+        (
+            56,
+            |side, lent| (side.ack)([0x08, 0x02, 1], b"done", lent),
+            |side, lent| (side.ack)([0x08, 0x02, 2], b"done", lent),
+        ),
+        (
+            56,
+            |side, lent| (side.popup)(&[0; 268], lent),
+            |side, lent| (side.popup)(&[], lent),
+        ),
+        (
+            268,
+            |side, lent| (side.popup_fields)(&[&[4][..], &[0; 55]].concat(), lent),
+            |side, lent| (side.popup_fields)(&[], lent),
+        ),
+    ];
+    for (size, accepted, refused) in images {
+        for room in 0..size {
+            let mut lent = vec![LENT; room];
+            assert_eq!(accepted(&OURS, &mut lent), 3, "{room} of {size}");
+            assert_eq!(refused(&OURS, &mut lent), 3, "{room} of {size}");
+            assert_eq!(lent, vec![LENT; room]);
+        }
+        for room in [size, size + 1, 1000] {
+            let (mut ours, mut theirs) = (vec![LENT; room], vec![LENT; room]);
+            assert_ne!(refused(&OURS, &mut ours), 0);
+            assert_eq!(ours, theirs);
+            assert_eq!(accepted(&OURS, &mut ours), 0);
+            assert_eq!(accepted(&RUST, &mut theirs), 0);
+            assert_eq!(ours, theirs);
+            assert!(ours[size..].iter().all(|byte| *byte == LENT));
+        }
+    }
 }

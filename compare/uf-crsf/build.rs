@@ -1,6 +1,4 @@
-//! Copies uf-crsf's own files, byte for byte, beside the two that stand in for its lib.rs and packets/mod.rs. Its functions that write
-//! a body are private: the copy of packets/commands.rs closes with one line more, the declaration of a child module that calls them.
-use std::io::Write;
+//! Copies uf-crsf's own files, byte for byte, beside the two that stand in for its lib.rs and packets/mod.rs.
 use std::path::{Path, PathBuf};
 use std::{env, fs};
 
@@ -17,13 +15,10 @@ const FILES: [&str; 9] = [
     "packets/commands/screen.rs",
 ];
 
-const STAND_INS: [(&str, &str); 3] = [
+const STAND_INS: [(&str, &str); 2] = [
     ("stand-ins/root.rs", "root.rs"),
     ("stand-ins/packets.rs", "packets/mod.rs"),
-    ("stand-ins/bodies.rs", "packets/commands/bodies.rs"),
 ];
-
-const DECLARES: (&str, &str) = ("packets/commands.rs", "pub mod bodies;\n");
 
 fn copy(from: &Path, to: &Path) {
     println!("cargo:rerun-if-changed={}", from.display());
@@ -50,10 +45,4 @@ fn main() {
     for (from, to) in STAND_INS {
         copy(&here.join(from), &out.join(to));
     }
-    let (file, line) = DECLARES;
-    fs::OpenOptions::new()
-        .append(true)
-        .open(out.join(file))
-        .and_then(|mut end| end.write_all(line.as_bytes()))
-        .unwrap();
 }

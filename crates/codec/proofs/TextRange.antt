@@ -12,7 +12,7 @@ use Rattle.codec.specs.Pick.{pick}
 use Rattle.codec.specs.Sheet.{text, got, refused}
 use Rattle.codec.specs.Reading.{before0, shorter, readItem}
 use Rattle.codec.specs.Writing.{nonzero}
-use Rattle.codec.proofs.Forth.{before-nonzero}
+use Rattle.codec.proofs.There.{before-nonzero}
 
 range-by : (least most : ℕ) (s v : List ℕ) (a b d : Bool) → ltb most (length (before0 s)) ≡ b
     → pick a (pick b (refused 1 0) (pick d (refused 2 0) (got (before0 s)))) (refused 1 0) ≡ got v → (length v ≤ most) × (nonzero v ≡ true)

@@ -15,8 +15,8 @@ use Rattle.codec.specs.Reading.{readItem, readItems, readRow, readBody}
 use Rattle.codec.specs.Writing.{okItems, itemsOf, writeItems, writeBody, stopInOrder, stopValuesFirst}
 use Rattle.codec.specs.Sound.{hasRow}
 use Rattle.crc.proofs.Laws.{bytes-take}
-use Rattle.codec.proofs.Forth.{and-got, bytes-drop}
-use Rattle.codec.proofs.There.{item-there, items-there, row-there, body-there, in-order-free, values-first-free}
+use Rattle.codec.proofs.Forth.{bytes-drop}
+use Rattle.codec.proofs.There.{and-got, item-there, items-there, row-there, body-there, in-order-free, values-first-free}
 use Rattle.codec.proofs.Writes.{room-there}
 use Rattle.families.specs.Sheets.{fcRows, osdRows, vtxRows, ledRows, generalRows, crossfireRows, flowRows, screenRows}
 use Rattle.families.specs.Fc.{fcOf}
@@ -127,7 +127,7 @@ screen-forth s k y h =
         pick (eqb (first v) 0x01)
         (andThen (readPopup s 1) (λ r. andThen (fitted r) (λ p. got (started p))))
         (andThen (readRow screenRows s (first v)) (λ d. got (returned d)))) q e in
-        item-there byte (drop 0 s) (x .0) (x .1 .0) .1
+        item-there byte (drop 0 s) (x .0) (x .1 .0) .1 .0
 
     by : (q : ScreenSaid) → readScreen s ≡ got q → Writable s 0x22 (keptScreen q)
     by (started q) e = popup-by q e

@@ -1,17 +1,17 @@
 -- A refusal on reading a payload has a number other than 0: number 0 is a command. Assumes nothing.
 use Prim.Native.Nat.{ℕ}
-use mathlib.Core.List.{List, [], _∷_}
+use mathlib.Core.List.{List, []}
 use mathlib.Core.Path.{_≡_, ap, sym, _∙_}
 use native.Mathlib.Omega.{arith}
-use lib.ListN.{length, drop, getD}
+use lib.ListN.{length, getD}
 use lib.Dec.{ltb, eqb}
 use Rattle.crc.specs.Check.{payloadCheck}
-use Rattle.codec.specs.Sheet.{Answer, got, refused, Row, row, Said, said, byte, first}
-use Rattle.codec.specs.Reading.{readItem, readItems, readRow, readBody}
+use Rattle.codec.specs.Sheet.{Answer, got, refused, Row, Said}
+use Rattle.codec.specs.Reading.{readBody}
 use Rattle.codec.specs.Refusals.{refusalNumber, outcomeNumber}
 use Rattle.codec.specs.declared.refusal.Outcome.the-variants.{Accepted, Refused}
 use Rattle.codec.specs.declared.refusal.Refusal.{Refusal}
-use Rattle.codec.proofs.Refused.{Some, some-got, some-refused, some-then, some-pick, item-some, items-some, zero-got}
+use Rattle.codec.proofs.Refused.{Some, some-got, some-refused, some-then, some-pick, body-some, zero-got}
 use Rattle.codec.proofs.Writes.{refusal-some}
 use Rattle.families.specs.Sheets.{fcRows, osdRows, vtxRows, ledRows, generalRows, crossfireRows, flowRows}
 use Rattle.families.specs.Fc.{fcOf}
@@ -31,21 +31,13 @@ use Rattle.commands.specs.Reading.{bodyIn, checkIn, readPlain, keptScree
 use Rattle.commands.specs.declared.DirectCommands.{DirectCommands}
 use Rattle.commands.specs.declared.CommandAnswer.{CommandAnswer}
 
-row-some : (rs : List Row) (s : List ℕ) (sub : ℕ) → Some (readRow rs s sub)
-row-some [] s sub = some-refused 2 0 (omega arith)
-row-some (row k is ∷ rs) s sub =
-    some-pick (eqb sub k) _ _ (some-then (readItems is s 1) _ (items-some is s 1) (λ vs. some-got (said k vs))) (row-some rs s sub)
-
-body-some : (rs : List Row) (s : List ℕ) → Some (readBody rs s)
-body-some rs s = some-then (readItem byte (drop 0 s)) _ (item-some byte (drop 0 s)) (λ v. row-some rs s (first v))
-
 plain-some : (rows : List Row) (payload : Said → CommandPayload) (s : List ℕ) → Some (readPlain rows payload s)
 plain-some rows payload s = some-then (readBody rows s) _ (body-some rows s) (λ b. some-got (kept (payload b) []))
 
 family-some : (id : ℕ) (s : List ℕ) → Some (readFamily id s)
 family-some id s =
-    some-pick (eqb id 0x03) _ _ (some-refused 4 0 (omega arith))
-    (some-pick (eqb id 0x13) _ _ (some-refused 4 0 (omega arith))
+    some-pick (eqb id 0x03) _ _ (some-refused 4 (omega arith))
+    (some-pick (eqb id 0x13) _ _ (some-refused 4 (omega arith))
     (some-pick (eqb id 0x01) _ _ (plain-some fcRows (λ b. Fc (fcOf b)) s)
     (some-pick (eqb id 0x05) _ _ (plain-some osdRows (λ b. Osd (osdOf b)) s)
     (some-pick (eqb id 0x08) _ _ (plain-some vtxRows (λ b. Vtx (vtxOf b)) s)
@@ -55,15 +47,15 @@ family-some id s =
     (some-pick (eqb id 0x20) _ _ (plain-some flowRows (λ b. FlowControl (flowOf b)) s)
     (some-pick (eqb id 0x22) _ _ (some-then (readScreen s) _ (screen-some s) (λ q. some-got (keptScreen q)))
     (some-pick (eqb id 0xFF) _ _ (some-then (readAck s) _ (ack-some s) (λ vs. some-got (keptAck vs)))
-    (some-refused 2 0 (omega arith))))))))))))
+    (some-refused 2 (omega arith))))))))))))
 
 pub read-some : (p : List ℕ) → Some (readCommand p)
 read-some p =
-    some-pick (ltb (length p) 4) _ _ (some-refused 1 0 (omega arith))
-    (some-pick (ltb 60 (length p)) _ _ (some-refused 1 0 (omega arith))
+    some-pick (ltb (length p) 4) _ _ (some-refused 1 (omega arith))
+    (some-pick (ltb 60 (length p)) _ _ (some-refused 1 (omega arith))
     (some-pick (eqb (checkIn p) (payloadCheck p)) _ _
     (some-then (readFamily (getD p 2 0) (bodyIn p)) _ (family-some (getD p 2 0) (bodyIn p)) (λ k. some-got (commandOf (getD p 0 0) (getD p 1 0) k)))
-    (some-refused 2 0 (omega arith))))
+    (some-refused 2 (omega arith))))
 
 -- an answer that accepts has its command
 pub accepted-is : (a : Answer DirectCommands) (x : CommandAnswer) → Some a → CommandIs a x → x .outcome ≡ Accepted → a ≡ got (x .command)

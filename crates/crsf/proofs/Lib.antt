@@ -1,7 +1,6 @@
 pub mod OneAnswer
 pub mod Handed
-pub mod MadePlain
+pub mod Refusals
 pub mod OneAnswerMade
-pub mod ReadPlain
 pub mod WritesOut
 pub mod OneAnswerCommand

@@ -1,6 +1,6 @@
 // The functions that C and Rust call: numbers and byte slices only (include/crsf.h).
-mod command;
-mod made;
+pub mod command;
+pub mod made;
 
 ghost use mathlib.Core.Path.{_≡_};
 ghost use Rattle.crc.specs.Check.{commandPolynomial, checkFrom};

@@ -19,7 +19,7 @@ use Rattle.codec.proofs.Packed.{number-ok, number-over}
 use Rattle.codec.proofs.Loops.{sets-append}
 use Rattle.codec.proofs.Writes.{put-fits, length-put, free}
 use Rattle.codec.proofs.Back.{items-back}
-use Rattle.codec.proofs.Forth.{and-got}
+use Rattle.codec.proofs.There.{and-got}
 use Rattle.codec.proofs.TextRange.{text-range}
 use Rattle.families.specs.Text.{padded}
 use Rattle.families.specs.Ack.{ackItems, ackLoose, actionOk, readAck, ackWith, ackSays, stopAck, newAck, ackOf, AckIs, madeInformation}

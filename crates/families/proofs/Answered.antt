@@ -9,10 +9,10 @@ use lib.Seq.{take-append-seam}
 use lib.Dec.{ltb, leb, eqb}
 use Rattle.codec.specs.Pick.{pick}
 use Rattle.codec.specs.Digits.{numberOf, split}
-use Rattle.codec.specs.Sheet.{Answer, got, refused, andThen, said, byte, flag, text, first, field}
+use Rattle.codec.specs.Sheet.{Answer, got, refused, andThen, byte, text, first, field}
 use Rattle.codec.specs.Reading.{readItem, readItems, readRow, endOf, within}
-use Rattle.codec.proofs.Forth.{and-got}
-use Rattle.codec.proofs.Refused.{Some, some-got, some-refused, some-then, some-pick, item-some, items-some}
+use Rattle.codec.proofs.There.{and-got}
+use Rattle.codec.proofs.Refused.{Some, some-got, some-refused, some-then, some-pick, item-some, items-some, row-some}
 use Rattle.families.specs.Sheets.{screenRows}
 use Rattle.families.specs.Text.{padded}
 use Rattle.families.specs.Ack.{ackLoose, actionOk, readAck, ackSays, ackOf, AckIs}
@@ -65,7 +65,7 @@ ack-fixed s vs h =
 
 pub ack-some : (s : List ℕ) → Some (readAck s)
 ack-some s =
-    some-then (readItems ackLoose s 0) _ (items-some ackLoose s 0) (λ vs. some-pick (actionOk vs) _ _ (some-got vs) (some-refused 2 0 (omega arith)))
+    some-then (readItems ackLoose s 0) _ (items-some ackLoose s 0) (λ vs. some-pick (actionOk vs) _ _ (some-got vs) (some-refused 2 (omega arith)))
 
 -- the first of padded bytes
 pub unpadded : (t : List ℕ) → take (length t) (padded 55 t) ≡ t
@@ -86,17 +86,11 @@ popup-some s at =
     some-then (readItems headItems s at) _ (items-some headItems s at) (λ h. more-some s (kindOf (drop (endOf headItems h at) s)) h (endOf headItems h at))
 
 fitted-some : (q : Popup) → Some (fitted q)
-fitted-some q = some-pick (leb (length (writePopup q)) 55) _ _ (some-got q) (some-refused 1 0 (omega arith))
-
-return-some : (s : List ℕ) (sub : ℕ) → Some (readRow screenRows s sub)
-return-some s sub =
-    some-pick (eqb sub 0x02) _ _
-    (some-then (readItems (byte ∷ flag ∷ []) s 1) _ (items-some (byte ∷ flag ∷ []) s 1) (λ vs. some-got (said 0x02 vs)))
-    (some-refused 2 0 (omega arith))
+fitted-some q = some-pick (leb (length (writePopup q)) 55) _ _ (some-got q) (some-refused 1 (omega arith))
 
 pub screen-some : (s : List ℕ) → Some (readScreen s)
 screen-some s =
     some-then (readItem byte (drop 0 s)) _ (item-some byte (drop 0 s)) (λ v.
     some-pick (eqb (first v) 0x01) _ _
     (some-then (readPopup s 1) _ (popup-some s 1) (λ q. some-then (fitted q) _ (fitted-some q) (λ p. some-got (started p))))
-    (some-then (readRow screenRows s (first v)) _ (return-some s (first v)) (λ b. some-got (returned b))))
+    (some-then (readRow screenRows s (first v)) _ (row-some screenRows s (first v)) (λ b. some-got (returned b))))

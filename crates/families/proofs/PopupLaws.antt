@@ -15,7 +15,8 @@ use Rattle.codec.specs.Writing.{okItem, itemBytes, nonzero, writeItems, okItems
 use Rattle.codec.specs.Sound.{soundItems, exactItems}
 use Rattle.crc.specs.Check.{Bytes}
 use Rattle.codec.proofs.Back.{both, passed, items-back}
-use Rattle.codec.proofs.Forth.{and-got, items-forth}
+use Rattle.codec.proofs.Forth.{items-forth}
+use Rattle.codec.proofs.There.{and-got, items-there}
 use Rattle.codec.proofs.Joins.{end-is, ok-join, ok-split, write-join}
 use Rattle.families.specs.declared.screen.ScreenAdditionalData.{ScreenAdditionalData}
 use Rattle.families.specs.declared.screen.ScreenAdditionalData.the-variants.{Absent, Empty, Selection}
@@ -179,19 +180,22 @@ popup-forth s at q y l r =
     let h = x .0 in
     let b = endOf headItems h at in
     let k = kindOf (drop b s) in
-    let fh = items-forth headItems s at h refl y l (x .1 .0) in
+    let fh = items-there headItems s at h l (x .1 .0) in
+    let gh = items-forth headItems s at h refl y (x .1 .0) in
     let eb = end-is headItems h at in
     let x2 = and-got (readItems (moreItems k) s b) (λ m. readRest s k h m (endOf (moreItems k) m b)) q (x .1 .1) in
     let m = x2 .0 in
     let e = endOf (moreItems k) m b in
-    let fm = items-forth (moreItems k) s b m (sound-more k .1) y (omega (arith, fh .1 .0)) (x2 .1 .0) in
+    let fm = items-there (moreItems k) s b m (omega (arith, fh .1)) (x2 .1 .0) in
+    let gm = items-forth (moreItems k) s b m (sound-more k .1) y (x2 .1 .0) in
     let ee = end-is (moreItems k) m b in
     let p = remains (drop e s) in
     let x3 = and-got (readItems (valuesItems p) s e) (λ v. got (popup k p (h ++ (m ++ v)))) q (x2 .1 .1) in
     let v = x3 .0 in
-    let fv = items-forth (valuesItems p) s e v (sound-values p .1) y (omega (arith, fm .1 .0)) (x3 .1 .0) in
+    let fv = items-there (valuesItems p) s e v (omega (arith, fm .1)) (x3 .1 .0) in
+    let gv = items-forth (valuesItems p) s e v (sound-values p .1) y (x3 .1 .0) in
     let a = alone-none s b e (end-none k m b) in
     let i = got-back (popup k p (h ++ (m ++ v))) q (x3 .1 .1) in
     forth-by s at q k p h m v i a (fh .0) (fm .0) (fv .0)
-    (omega (arith, fv .1 .0))
-    (fh .1 .1) b e eb ee (fm .1 .1) (fv .1 .1)
+    (omega (arith, fv .1))
+    gh b e eb ee gm gv

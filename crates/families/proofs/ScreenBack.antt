@@ -14,7 +14,7 @@ use Rattle.codec.specs.Reading.{readItem, readRow}
 use Rattle.codec.specs.Writing.{writeItems, writeBody}
 use Rattle.codec.specs.Told.{bit}
 use Rattle.codec.proofs.Back.{item-back, body-back}
-use Rattle.codec.proofs.Forth.{and-got}
+use Rattle.codec.proofs.There.{and-got}
 use Rattle.codec.proofs.Bounds.{packed-there}
 use Rattle.families.specs.Sheets.{screenRows}
 use Rattle.families.specs.Popup.{Popup, popup, readPopup, okPopup, writePopup, fitted}

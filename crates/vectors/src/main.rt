@@ -1,8 +1,7 @@
 // Replays the stored answers of the Rust from standard input. README.md in this crate's folder says what a record is.
 ghost use Prim.Native.Nat.{_<_};
 
-mod bodies;
-mod made;
+mod boundary;
 mod plain;
 
 enum Part {
@@ -67,12 +66,12 @@ fn agrees(kind: u8, input: &[u8], stored: &[u8]) -> bool {
     match kind {
         CHECK => is_byte(stored, crc::check(input, 0)),
         PAYLOAD_CHECK => is_byte(stored, crc::payload_check(input)),
-        READ => bodies::read_agrees(input, stored),
-        WRITE => bodies::write_agrees(input, stored),
-        TEXT => made::text_agrees(input, stored),
-        ACK => made::ack_agrees(input, stored),
-        POPUP => made::popup_agrees(input, stored),
-        INSPECT => made::inspect_agrees(input, stored),
+        READ => boundary::read_agrees(input, stored),
+        WRITE => boundary::write_agrees(input, stored),
+        TEXT => boundary::text_agrees(input, stored),
+        ACK => boundary::ack_agrees(input, stored),
+        POPUP => boundary::popup_agrees(input, stored),
+        INSPECT => boundary::inspect_agrees(input, stored),
         _ => false,
     }
 }

@@ -12,32 +12,6 @@ pub(crate) fn at(s: &[u8], i: usize) -> u8 {
     if i < s.len() { s[i] } else { 0 }
 }
 
-fn wide16(x: u8) -> u16
-    ensures { λ r. ⌜ r < 256 ⌝ }
-{
-    x as u16
-}
-
-pub(crate) fn pair(high: u8, low: u8) -> u16 {
-    wide16(high) * 256 + wide16(low)
-}
-
-pub(crate) fn four(a: u8, b: u8, c: u8, d: u8) -> u32 {
-    (pair(a, b) as u32) * 65536 + (pair(c, d) as u32)
-}
-
-pub(crate) fn high(x: u16) -> u8 {
-    (x / 256) as u8
-}
-
-pub(crate) fn low(x: u16) -> u8 {
-    (x % 256) as u8
-}
-
-pub(crate) fn bit(b: bool) -> u8 {
-    if b { 1 } else { 0 }
-}
-
 // Whether the n bytes of s from a place on are those of t from another on; past an end they are 0.
 pub(crate) fn same(s: &[u8], from: usize, t: &[u8], start: usize, n: usize) -> bool {
     if 1000 < from {

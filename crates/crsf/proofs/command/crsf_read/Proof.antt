@@ -8,7 +8,7 @@ use Rattle.commands.specs.Reading.{readCommand}
 use Rattle.images.specs.Record.{recordImage}
 use Rattle.images.proofs.RecordLaws.{record-size}
 use Rattle.crsf.proofs.Handed.{short, in-room, refuses, hands}
-use Rattle.crsf.proofs.ReadPlain.{plain-read}
+use Rattle.commands.proofs.Known.{read-some}
 use borrow.Author.Needs.{needs}
 use Rattle.crsf.proofs.command.crsf_read.Statement.{statement}
 use Rattle.crsf.proofs.command.crsf_read.Tie as tie
@@ -40,11 +40,11 @@ same-length c = search needs
 returns-2 : tie.Need-returns-2
 returns-2 c = let l : length (c .before .before .before .before .before .before .before .from-bytes .result .command .bytes) ≡ 55 = search needs in
     let a = readCommand (now (c .before .before .before .before .before .before .before .before .before .before .before .args .payload)) in
-    in-room recordImage (now (c .before .before .before .before .before .before .before .before .before .before .before .args .image)) a 70 0 _ (c .before .before .before .before .before .before .before .before .if1 .left) (hands recordImage (now (c .before .before .before .before .before .before .before .before .before .before .before .args .image)) a blankCommand (recordImage (c .before .before .before .before .before .before .before .from-bytes .result .command)) _ (plain-read (now (c .before .before .before .before .before .before .before .before .before .before .before .args .payload))) (rw (c .before .before .before .before .before .enum-told .given .1) at (c .before .before .before .before .before .before .before .from-bytes .ensures .0)) (ap recordImage (c .before .before .before .before .before .before .before .from-bytes .ensures .1)) (omega (arith, record-size (c .before .before .before .before .before .before .before .from-bytes .result .command) l)) (c .before .before .put .ensures))
+    in-room recordImage (now (c .before .before .before .before .before .before .before .before .before .before .before .args .image)) a 70 0 _ (c .before .before .before .before .before .before .before .before .if1 .left) (hands recordImage (now (c .before .before .before .before .before .before .before .before .before .before .before .args .image)) a blankCommand (recordImage (c .before .before .before .before .before .before .before .from-bytes .result .command)) _ (read-some (now (c .before .before .before .before .before .before .before .before .before .before .before .args .payload))) (rw (c .before .before .before .before .before .enum-told .given .1) at (c .before .before .before .before .before .before .before .from-bytes .ensures .0)) (ap recordImage (c .before .before .before .before .before .before .before .from-bytes .ensures .1)) (omega (arith, record-size (c .before .before .before .before .before .before .before .from-bytes .result .command) l)) (c .before .before .put .ensures))
 
 returns-3 : tie.Need-returns-3
 returns-3 c = let a = readCommand (now (c .before .before .before .before .before .before .before .before .args .payload)) in
-    in-room recordImage (now (c .before .before .before .before .before .before .before .before .args .image)) a 70 (c .refused2 .result) _ (c .before .before .before .before .before .if1 .left) (refuses recordImage (now (c .before .before .before .before .before .before .before .before .args .image)) a (c .before .before .o .given .0 .0) (c .refused2 .result) (plain-read (now (c .before .before .before .before .before .before .before .before .args .payload))) (rw (c .before .before .o .given .1) at (c .before .before .before .before .from-bytes .ensures .0)) (c .refused2 .ensures))
+    in-room recordImage (now (c .before .before .before .before .before .before .before .before .args .image)) a 70 (c .refused2 .result) _ (c .before .before .before .before .before .if1 .left) (refuses recordImage (now (c .before .before .before .before .before .before .before .before .args .image)) a (c .before .before .o .given .0 .0) (c .refused2 .result) (read-some (now (c .before .before .before .before .before .before .before .before .args .payload))) (rw (c .before .before .o .given .1) at (c .before .before .before .before .from-bytes .ensures .0)) (c .refused2 .ensures))
 
 pub crsf-read-spec : {M : Type 1} → statement M
 crsf-read-spec =

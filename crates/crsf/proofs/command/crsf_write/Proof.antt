@@ -1,7 +1,7 @@
 -- A record's image in: none, or what writing its command answers. Assumes nothing.
 use denote.Ref.{now}
 use Rattle.images.specs.Record.{recordFrom}
-use Rattle.crsf.proofs.ReadPlain.{plain-record}
+use Rattle.crsf.proofs.Refusals.{record-some}
 use Rattle.crsf.proofs.WritesOut.{writes-on, writes-not}
 use borrow.Author.Needs.{needs}
 use Rattle.crsf.proofs.command.crsf_write.Statement.{statement}
@@ -29,10 +29,10 @@ same-length : tie.Need-same-length
 same-length c = search needs
 
 returns : tie.Need-returns
-returns c = writes-on (recordFrom (now (c .before .before .before .before .before .before .before .before .before .before .before .args .image))) (plain-record (now (c .before .before .before .before .before .before .before .before .before .before .before .args .image))) (c .before .before .before .before .before .before .before .before .from .result) (c .before .before .before .before .before .before .before .before .from .ensures) (c .before .before .before .to-bytes .result) _ _ _ (c .before .before .before .before .before .enum-told .given .1) (c .before .before .before .to-bytes .ensures) (c .written .ensures)
+returns c = writes-on (recordFrom (now (c .before .before .before .before .before .before .before .before .before .before .before .args .image))) (record-some (now (c .before .before .before .before .before .before .before .before .before .before .before .args .image))) (c .before .before .before .before .before .before .before .before .from .result) (c .before .before .before .before .before .before .before .before .from .ensures) (c .before .before .before .to-bytes .result) _ _ _ (c .before .before .before .before .before .enum-told .given .1) (c .before .before .before .to-bytes .ensures) (c .written .ensures)
 
 returns-2 : tie.Need-returns-2
-returns-2 c = writes-not (recordFrom (now (c .before .before .before .before .before .before .before .before .args .image))) (plain-record (now (c .before .before .before .before .before .before .before .before .args .image))) (c .before .before .before .before .before .from .result) (c .before .before .before .before .before .from .ensures) (c .before .before .o .given .0 .0) _ _ (c .before .before .o .given .1) (c .refused .ensures)
+returns-2 c = writes-not (recordFrom (now (c .before .before .before .before .before .before .before .before .args .image))) (record-some (now (c .before .before .before .before .before .before .before .before .args .image))) (c .before .before .before .before .before .from .result) (c .before .before .before .before .before .from .ensures) (c .before .before .o .given .0 .0) _ _ (c .before .before .o .given .1) (c .refused .ensures)
 
 pub crsf-write-spec : {M : Type 1} → statement M
 crsf-write-spec =

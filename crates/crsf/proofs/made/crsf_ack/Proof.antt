@@ -7,7 +7,7 @@ use Rattle.families.specs.Ack.{newAck, ackWith, blankAck}
 use Rattle.images.specs.Ack.{ackImage, imageOfAck}
 use Rattle.images.proofs.AckLaws.{ack-size, ack-image}
 use Rattle.crsf.proofs.Handed.{short, in-room, refuses, hands}
-use Rattle.crsf.proofs.MadePlain.{plain-ack}
+use Rattle.crsf.proofs.Refusals.{ack-some}
 use borrow.Author.Needs.{needs}
 use Rattle.crsf.proofs.made.crsf_ack.Statement.{statement}
 use Rattle.crsf.proofs.made.crsf_ack.Tie as tie
@@ -41,12 +41,12 @@ returns-2 c = let k = ackWith (c .before .before .before .before .before .before
     let a = newAck k (now (c .before .before .before .before .before .before .before .before .before .before .args .information)) in
     let r = c .before .before .before .before .before .before .new .result in
     let l : length (c .before .before .before .before .before .before .new .result .bytes) ≡ 55 = search needs in
-    in-room imageOfAck (now (c .before .before .before .before .before .before .before .before .before .before .args .ack)) a 56 0 _ (c .before .before .before .before .before .before .before .if1 .left) (hands imageOfAck (now (c .before .before .before .before .before .before .before .before .before .before .args .ack)) a blankAck (ackImage (r .ack) (r .len) (r .bytes)) _ (plain-ack k (now (c .before .before .before .before .before .before .before .before .before .before .args .information))) (rw (c .before .before .before .before .enum-told .given .1) at (c .before .before .before .before .before .before .new .ensures .0)) (ack-image a r (c .before .before .before .before .before .before .new .ensures)) (omega (arith, ack-size (r .ack) (r .len) (r .bytes) l)) (c .before .before .put .ensures))
+    in-room imageOfAck (now (c .before .before .before .before .before .before .before .before .before .before .args .ack)) a 56 0 _ (c .before .before .before .before .before .before .before .if1 .left) (hands imageOfAck (now (c .before .before .before .before .before .before .before .before .before .before .args .ack)) a blankAck (ackImage (r .ack) (r .len) (r .bytes)) _ (ack-some k (now (c .before .before .before .before .before .before .before .before .before .before .args .information))) (rw (c .before .before .before .before .enum-told .given .1) at (c .before .before .before .before .before .before .new .ensures .0)) (ack-image a r (c .before .before .before .before .before .before .new .ensures)) (omega (arith, ack-size (r .ack) (r .len) (r .bytes) l)) (c .before .before .put .ensures))
 
 returns-3 : tie.Need-returns-3
 returns-3 c = let k = ackWith (c .before .before .before .before .before .before .before .before .args .command-id) (c .before .before .before .before .before .before .before .before .args .sub-command-id) (c .before .before .before .before .before .before .before .before .args .action) in
     let a = newAck k (now (c .before .before .before .before .before .before .before .before .args .information)) in
-    in-room imageOfAck (now (c .before .before .before .before .before .before .before .before .args .ack)) a 56 (c .refused2 .result) _ (c .before .before .before .before .before .if1 .left) (refuses imageOfAck (now (c .before .before .before .before .before .before .before .before .args .ack)) a (c .before .before .o .given .0 .0) (c .refused2 .result) (plain-ack k (now (c .before .before .before .before .before .before .before .before .args .information))) (rw (c .before .before .o .given .1) at (c .before .before .before .before .new .ensures .0)) (c .refused2 .ensures))
+    in-room imageOfAck (now (c .before .before .before .before .before .before .before .before .args .ack)) a 56 (c .refused2 .result) _ (c .before .before .before .before .before .if1 .left) (refuses imageOfAck (now (c .before .before .before .before .before .before .before .before .args .ack)) a (c .before .before .o .given .0 .0) (c .refused2 .result) (ack-some k (now (c .before .before .before .before .before .before .before .before .args .information))) (rw (c .before .before .o .given .1) at (c .before .before .before .before .new .ensures .0)) (c .refused2 .ensures))
 
 pub crsf-ack-spec : {M : Type 1} → statement M
 crsf-ack-spec =

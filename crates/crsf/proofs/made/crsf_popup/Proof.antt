@@ -5,7 +5,7 @@ use Rattle.families.specs.Fields.{construct, blankFields}
 use Rattle.images.specs.Popup.{popupImage}
 use Rattle.images.specs.Fields.{fieldsFrom}
 use Rattle.crsf.proofs.Handed.{short, in-room, stops, goes-on}
-use Rattle.crsf.proofs.MadePlain.{plain-fields}
+use Rattle.crsf.proofs.Refusals.{fields-some}
 use borrow.Author.Needs.{needs}
 use Rattle.crsf.proofs.made.crsf_popup.Statement.{statement}
 use Rattle.crsf.proofs.made.crsf_popup.Tie as tie
@@ -36,11 +36,11 @@ same-length c = search needs
 
 returns-2 : tie.Need-returns-2
 returns-2 c = let s = now (c .before .before .before .before .before .before .before .before .before .before .before .args .fields) in
-    in-room popupImage (now (c .before .before .before .before .before .before .before .before .before .before .before .args .popup)) (andThen (fieldsFrom s) construct) 56 (c .before .before .make .result) _ (c .before .before .before .before .before .before .before .before .if1 .left) (goes-on popupImage (now (c .before .before .before .before .before .before .before .before .before .before .before .args .popup)) (fieldsFrom s) construct (plain-fields s) blankFields (c .before .before .before .before .before .before .before .from .result .fields) (c .before .before .make .result) _ (rw (c .before .before .before .before .before .enum-told .given .1) at (c .before .before .before .before .before .before .before .from .ensures .0)) (c .before .before .before .before .before .before .before .from .ensures .1) (c .before .before .make .ensures))
+    in-room popupImage (now (c .before .before .before .before .before .before .before .before .before .before .before .args .popup)) (andThen (fieldsFrom s) construct) 56 (c .before .before .make .result) _ (c .before .before .before .before .before .before .before .before .if1 .left) (goes-on popupImage (now (c .before .before .before .before .before .before .before .before .before .before .before .args .popup)) (fieldsFrom s) construct (fields-some s) blankFields (c .before .before .before .before .before .before .before .from .result .fields) (c .before .before .make .result) _ (rw (c .before .before .before .before .before .enum-told .given .1) at (c .before .before .before .before .before .before .before .from .ensures .0)) (c .before .before .before .before .before .before .before .from .ensures .1) (c .before .before .make .ensures))
 
 returns-3 : tie.Need-returns-3
 returns-3 c = let s = now (c .before .before .before .before .before .before .before .before .args .fields) in
-    in-room popupImage (now (c .before .before .before .before .before .before .before .before .args .popup)) (andThen (fieldsFrom s) construct) 56 (c .refused2 .result) _ (c .before .before .before .before .before .if1 .left) (stops popupImage (now (c .before .before .before .before .before .before .before .before .args .popup)) (fieldsFrom s) construct (plain-fields s) (c .before .before .o .given .0 .0) (c .refused2 .result) (rw (c .before .before .o .given .1) at (c .before .before .before .before .from .ensures .0)) (c .refused2 .ensures))
+    in-room popupImage (now (c .before .before .before .before .before .before .before .before .args .popup)) (andThen (fieldsFrom s) construct) 56 (c .refused2 .result) _ (c .before .before .before .before .before .if1 .left) (stops popupImage (now (c .before .before .before .before .before .before .before .before .args .popup)) (fieldsFrom s) construct (fields-some s) (c .before .before .o .given .0 .0) (c .refused2 .result) (rw (c .before .before .o .given .1) at (c .before .before .before .before .from .ensures .0)) (c .refused2 .ensures))
 
 pub crsf-popup-spec : {M : Type 1} → statement M
 crsf-popup-spec =

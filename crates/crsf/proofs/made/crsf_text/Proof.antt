@@ -8,7 +8,7 @@ use Rattle.families.specs.Text.{newText}
 use Rattle.images.specs.Text.{textImage, imageOfText}
 use Rattle.images.proofs.TextLaws.{text-size}
 use Rattle.crsf.proofs.Handed.{short, in-room, refuses, hands}
-use Rattle.crsf.proofs.MadePlain.{plain-text}
+use Rattle.crsf.proofs.Refusals.{text-some}
 use borrow.Author.Needs.{needs}
 use Rattle.crsf.proofs.made.crsf_text.Statement.{statement}
 use Rattle.crsf.proofs.made.crsf_text.Tie as tie
@@ -40,11 +40,11 @@ same-length c = search needs
 returns-2 : tie.Need-returns-2
 returns-2 c = let l : length (c .before .before .before .before .before .before .before .new .result .text .bytes) ≡ 51 = search needs in
     let a = newText (now (c .before .before .before .before .before .before .before .before .before .before .before .args .bytes)) in
-    in-room imageOfText (now (c .before .before .before .before .before .before .before .before .before .before .before .args .text)) a 52 0 _ (c .before .before .before .before .before .before .before .before .if1 .left) (hands imageOfText (now (c .before .before .before .before .before .before .before .before .before .before .before .args .text)) a [] (textImage (c .before .before .before .before .before .before .before .new .result .text)) _ (plain-text (now (c .before .before .before .before .before .before .before .before .before .before .before .args .bytes))) (rw (c .before .before .before .before .before .enum-told .given .1) at (c .before .before .before .before .before .before .before .new .ensures .0)) (ap textImage (c .before .before .before .before .before .before .before .new .ensures .1)) (omega (arith, text-size (c .before .before .before .before .before .before .before .new .result .text) l)) (c .before .before .put .ensures))
+    in-room imageOfText (now (c .before .before .before .before .before .before .before .before .before .before .before .args .text)) a 52 0 _ (c .before .before .before .before .before .before .before .before .if1 .left) (hands imageOfText (now (c .before .before .before .before .before .before .before .before .before .before .before .args .text)) a [] (textImage (c .before .before .before .before .before .before .before .new .result .text)) _ (text-some (now (c .before .before .before .before .before .before .before .before .before .before .before .args .bytes))) (rw (c .before .before .before .before .before .enum-told .given .1) at (c .before .before .before .before .before .before .before .new .ensures .0)) (ap textImage (c .before .before .before .before .before .before .before .new .ensures .1)) (omega (arith, text-size (c .before .before .before .before .before .before .before .new .result .text) l)) (c .before .before .put .ensures))
 
 returns-3 : tie.Need-returns-3
 returns-3 c = let a = newText (now (c .before .before .before .before .before .before .before .before .args .bytes)) in
-    in-room imageOfText (now (c .before .before .before .before .before .before .before .before .args .text)) a 52 (c .refused2 .result) _ (c .before .before .before .before .before .if1 .left) (refuses imageOfText (now (c .before .before .before .before .before .before .before .before .args .text)) a (c .before .before .o .given .0 .0) (c .refused2 .result) (plain-text (now (c .before .before .before .before .before .before .before .before .args .bytes))) (rw (c .before .before .o .given .1) at (c .before .before .before .before .new .ensures .0)) (c .refused2 .ensures))
+    in-room imageOfText (now (c .before .before .before .before .before .before .before .before .args .text)) a 52 (c .refused2 .result) _ (c .before .before .before .before .before .if1 .left) (refuses imageOfText (now (c .before .before .before .before .before .before .before .before .args .text)) a (c .before .before .o .given .0 .0) (c .refused2 .result) (text-some (now (c .before .before .before .before .before .before .before .before .args .bytes))) (rw (c .before .before .o .given .1) at (c .before .before .before .before .new .ensures .0)) (c .refused2 .ensures))
 
 pub crsf-text-spec : {M : Type 1} → statement M
 crsf-text-spec =

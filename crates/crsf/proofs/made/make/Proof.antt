@@ -8,7 +8,7 @@ use Rattle.families.specs.Fields.{construct, popupOf}
 use Rattle.images.specs.Popup.{popupImage}
 use Rattle.images.proofs.PopupLaws.{popup-size}
 use Rattle.crsf.proofs.Handed.{refuses, hands}
-use Rattle.crsf.proofs.MadePlain.{plain-construct}
+use Rattle.crsf.proofs.Refusals.{construct-some}
 use borrow.Author.Needs.{needs}
 use Rattle.crsf.proofs.made.make.Statement.{statement}
 use Rattle.crsf.proofs.made.make.Tie as tie
@@ -33,10 +33,10 @@ same-length c = search needs
 
 returns : tie.Need-returns
 returns c = let l : length (c .before .before .before .before .before .before .before .new .result .popup .bytes) ≡ 55 = search needs in
-    hands popupImage (now (c .before .before .before .before .before .before .before .before .before .args .out)) (construct (c .before .before .before .before .before .before .before .before .before .args .f)) (popupOf []) (popupImage (c .before .before .before .before .before .before .before .new .result .popup)) _ (plain-construct (c .before .before .before .before .before .before .before .before .before .args .f)) (rw (c .before .before .before .before .before .enum-told .given .1) at (c .before .before .before .before .before .before .before .new .ensures .0)) (ap popupImage (c .before .before .before .before .before .before .before .new .ensures .1)) (omega (arith, popup-size (c .before .before .before .before .before .before .before .new .result .popup) l, c .before .before .before .before .before .before .before .before .before .pre)) (c .before .before .put .ensures)
+    hands popupImage (now (c .before .before .before .before .before .before .before .before .before .args .out)) (construct (c .before .before .before .before .before .before .before .before .before .args .f)) (popupOf []) (popupImage (c .before .before .before .before .before .before .before .new .result .popup)) _ (construct-some (c .before .before .before .before .before .before .before .before .before .args .f)) (rw (c .before .before .before .before .before .enum-told .given .1) at (c .before .before .before .before .before .before .before .new .ensures .0)) (ap popupImage (c .before .before .before .before .before .before .before .new .ensures .1)) (omega (arith, popup-size (c .before .before .before .before .before .before .before .new .result .popup) l, c .before .before .before .before .before .before .before .before .before .pre)) (c .before .before .put .ensures)
 
 returns-2 : tie.Need-returns-2
-returns-2 c = refuses popupImage (now (c .before .before .before .before .before .before .args .out)) (construct (c .before .before .before .before .before .before .args .f)) (c .before .before .o .given .0 .0) (c .refused .result) (plain-construct (c .before .before .before .before .before .before .args .f)) (rw (c .before .before .o .given .1) at (c .before .before .before .before .new .ensures .0)) (c .refused .ensures)
+returns-2 c = refuses popupImage (now (c .before .before .before .before .before .before .args .out)) (construct (c .before .before .before .before .before .before .args .f)) (c .before .before .o .given .0 .0) (c .refused .result) (construct-some (c .before .before .before .before .before .before .args .f)) (rw (c .before .before .o .given .1) at (c .before .before .before .before .new .ensures .0)) (c .refused .ensures)
 
 pub make-spec : {M : Type 1} → statement M
 make-spec =

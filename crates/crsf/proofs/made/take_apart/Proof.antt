@@ -7,7 +7,7 @@ use Rattle.families.specs.Sizes.{Sized}
 use Rattle.images.specs.Fields.{fieldsImage}
 use Rattle.images.proofs.FieldsPut.{fields-size}
 use Rattle.crsf.proofs.Handed.{refuses, hands}
-use Rattle.crsf.proofs.MadePlain.{plain-inspect}
+use Rattle.crsf.proofs.Refusals.{inspect-some}
 use borrow.Author.Needs.{needs}
 use Rattle.crsf.proofs.made.take_apart.Statement.{statement}
 use Rattle.crsf.proofs.made.take_apart.Tie as tie
@@ -40,10 +40,10 @@ same-length : tie.Need-same-length
 same-length c = search needs
 
 returns : tie.Need-returns
-returns c = hands fieldsImage (now (c .before .before .before .before .before .before .before .before .before .args .out)) (inspect (c .before .before .before .before .before .before .before .before .before .args .q)) blankFields (fieldsImage (c .before .before .before .before .before .before .before .fields .result .fields)) _ (plain-inspect (c .before .before .before .before .before .before .before .before .before .args .q)) (rw (c .before .before .before .before .before .enum-told .given .1) at (c .before .before .before .before .before .before .before .fields .ensures .0)) (ap fieldsImage (c .before .before .before .before .before .before .before .fields .ensures .1)) (omega (arith, fields-size (c .before .before .before .before .before .before .before .fields .result .fields) (fit (c .before .before .before .before .before .before .before)), c .before .before .before .before .before .before .before .before .before .pre)) (c .before .before .put .ensures)
+returns c = hands fieldsImage (now (c .before .before .before .before .before .before .before .before .before .args .out)) (inspect (c .before .before .before .before .before .before .before .before .before .args .q)) blankFields (fieldsImage (c .before .before .before .before .before .before .before .fields .result .fields)) _ (inspect-some (c .before .before .before .before .before .before .before .before .before .args .q)) (rw (c .before .before .before .before .before .enum-told .given .1) at (c .before .before .before .before .before .before .before .fields .ensures .0)) (ap fieldsImage (c .before .before .before .before .before .before .before .fields .ensures .1)) (omega (arith, fields-size (c .before .before .before .before .before .before .before .fields .result .fields) (fit (c .before .before .before .before .before .before .before)), c .before .before .before .before .before .before .before .before .before .pre)) (c .before .before .put .ensures)
 
 returns-2 : tie.Need-returns-2
-returns-2 c = refuses fieldsImage (now (c .before .before .before .before .before .before .args .out)) (inspect (c .before .before .before .before .before .before .args .q)) (c .before .before .o .given .0 .0) (c .refused .result) (plain-inspect (c .before .before .before .before .before .before .args .q)) (rw (c .before .before .o .given .1) at (c .before .before .before .before .fields .ensures .0)) (c .refused .ensures)
+returns-2 c = refuses fieldsImage (now (c .before .before .before .before .before .before .args .out)) (inspect (c .before .before .before .before .before .before .args .q)) (c .before .before .o .given .0 .0) (c .refused .result) (inspect-some (c .before .before .before .before .before .before .args .q)) (rw (c .before .before .o .given .1) at (c .before .before .before .before .fields .ensures .0)) (c .refused .ensures)
 
 pub take-apart-spec : {M : Type 1} → statement M
 take-apart-spec =

@@ -1,0 +1,126 @@
+//! One input given to both sides: the answer's word and every lent byte have to be the same.
+use std::fmt::Debug;
+
+use crate::side::Side;
+use crate::theirs::{self, RUST};
+use crate::{fields, image};
+
+/// What every lent byte holds before a call.
+pub const LENT: u8 = 0xA5;
+
+/// A slice that is lent has so many bytes less; those behind it are looked at, too.
+const BEHIND: usize = 2;
+
+const MOST: usize = fields::SIZE + BEHIND;
+
+/// Cases of one kind, and the first in which the two sides differ.
+pub struct Both<'a> {
+    side: &'a Side,
+    pub cases: u64,
+    /// Of these, payloads of the families left behind: there document 01 answers, not the Rust.
+    pub left_behind: u64,
+    pub differing: u64,
+    pub first: Option<String>,
+}
+
+impl<'a> Both<'a> {
+    pub fn new(side: &'a Side) -> Self {
+        Both {
+            side,
+            cases: 0,
+            left_behind: 0,
+            differing: 0,
+            first: None,
+        }
+    }
+
+    fn note<T: PartialEq + Debug>(&mut self, ours: T, theirs: T, case: impl FnOnce() -> String) {
+        self.cases += 1;
+        if ours != theirs {
+            self.differing += 1;
+            self.first.get_or_insert_with(|| {
+                format!("{}: ours {ours:02X?}, the Rust's {theirs:02X?}", case())
+            });
+        }
+    }
+
+    fn lending(
+        &mut self,
+        room: usize,
+        call: impl Fn(&Side, &mut [u8]) -> u32,
+        case: impl FnOnce() -> String,
+    ) {
+        let answer = |side: &Side| {
+            let mut space = [LENT; MOST];
+            let word = call(side, &mut space[..room]);
+            (word, space)
+        };
+        let (ours, theirs) = (answer(self.side), answer(&RUST));
+        let seen = room + BEHIND;
+        self.note(
+            (ours.0, &ours.1[..seen]),
+            (theirs.0, &theirs.1[..seen]),
+            case,
+        );
+    }
+
+    pub fn read(&mut self, payload: &[u8]) {
+        self.left_behind += u64::from(theirs::left_behind(payload));
+        let call = |side: &Side, lent: &mut [u8]| (side.read)(payload, lent);
+        self.lending(image::SIZE, call, || format!("read {payload:02X?}"));
+    }
+
+    pub fn write(&mut self, record: &[u8], room: usize) {
+        let call = |side: &Side, lent: &mut [u8]| (side.write)(record, lent);
+        self.lending(room, call, || {
+            format!("write {record:02X?} into {room} bytes")
+        });
+    }
+
+    pub fn again(&mut self, payload: &[u8], room: usize) {
+        self.left_behind += u64::from(theirs::left_behind(payload));
+        let call = |side: &Side, lent: &mut [u8]| (side.again)(payload, lent);
+        self.lending(room, call, || {
+            format!("again {payload:02X?} into {room} bytes")
+        });
+    }
+
+    pub fn text(&mut self, bytes: &[u8]) {
+        let call = |side: &Side, lent: &mut [u8]| (side.text)(bytes, lent);
+        self.lending(fields::TEXT_SIZE, call, || format!("text {bytes:02X?}"));
+    }
+
+    pub fn ack(&mut self, ids: [u8; 3], information: &[u8]) {
+        let call = |side: &Side, lent: &mut [u8]| (side.ack)(ids, information, lent);
+        self.lending(theirs::ACK_SIZE, call, || {
+            format!("ack {ids:02X?} {information:02X?}")
+        });
+    }
+
+    /// The constructor, and the inspection of what the Rust makes.
+    pub fn popup(&mut self, given: &[u8]) {
+        let call = |side: &Side, lent: &mut [u8]| (side.popup)(given, lent);
+        self.lending(fields::POPUP_SIZE, call, || format!("popup {given:02X?}"));
+        let mut popup = [0; fields::POPUP_SIZE];
+        if (RUST.popup)(given, &mut popup) == 0 {
+            let call = |side: &Side, lent: &mut [u8]| (side.popup_fields)(&popup, lent);
+            self.lending(fields::SIZE, call, || format!("inspect {popup:02X?}"));
+        }
+    }
+
+    pub fn check(&mut self, bytes: &[u8], start: u8) {
+        let (ours, theirs) = ((self.side.check)(bytes, start), (RUST.check)(bytes, start));
+        self.note(ours, theirs, || {
+            format!("check {bytes:02X?} from {start:02X}")
+        });
+    }
+
+    /// Ours of the second part from ours of the first, the Rust's of both in one digest.
+    pub fn check_in_two(&mut self, first: &[u8], second: &[u8]) {
+        let check = self.side.check;
+        let ours = check(second, check(first, 0));
+        self.note(ours, theirs::check_in_two(first, second), || {
+            format!("check {first:02X?}, then {second:02X?}")
+        });
+    }
+}

@@ -1,0 +1,61 @@
+//! Ours: the exported C functions of libcrsf.a, and command_again of libagain.a.
+use crate::side::Side;
+
+extern "C" {
+    fn crsf_check(bytes: *const u8, len: usize, start: u8) -> u8;
+    fn crsf_ack(
+        command_id: u8,
+        sub_command_id: u8,
+        action: u8,
+        information: *const u8,
+        len: usize,
+        ack: *mut u8,
+        ack_len: usize,
+    ) -> u32;
+}
+
+/// Safe functions over those that take a slice and lend another.
+macro_rules! lending {
+    ($($name:ident $function:ident;)*) => {
+        extern "C" {
+            $(fn $function(given: *const u8, len: usize, lent: *mut u8, lent_len: usize) -> u32;)*
+        }
+
+        $(fn $name(given: &[u8], lent: &mut [u8]) -> u32 {
+            // Both slices' pointers and lengths are valid while the call lasts, which is all that the function does with them.
+            unsafe { $function(given.as_ptr(), given.len(), lent.as_mut_ptr(), lent.len()) }
+        })*
+    };
+}
+
+lending! {
+    read crsf_read;
+    write crsf_write;
+    again command_again;
+    text crsf_text;
+    popup crsf_popup;
+    popup_fields crsf_popup_fields;
+}
+
+fn check(bytes: &[u8], start: u8) -> u8 {
+    // As above.
+    unsafe { crsf_check(bytes.as_ptr(), bytes.len(), start) }
+}
+
+fn ack([command_id, sub_command_id, action]: [u8; 3], information: &[u8], ack: &mut [u8]) -> u32 {
+    let (from, len) = (information.as_ptr(), information.len());
+    let (to, room) = (ack.as_mut_ptr(), ack.len());
+    // As above.
+    unsafe { crsf_ack(command_id, sub_command_id, action, from, len, to, room) }
+}
+
+pub const OURS: Side = Side {
+    read,
+    write,
+    again,
+    text,
+    ack,
+    popup,
+    popup_fields,
+    check,
+};

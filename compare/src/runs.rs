@@ -1,0 +1,179 @@
+//! The comparison: each run gives one kind of input to both sides, in full, or at random for so many rounds from a seed.
+use crate::both::Both;
+use crate::image::{KINDS, SCREEN};
+use crate::popups;
+use crate::random::Random;
+use crate::side::Side;
+use crate::{cases, every, fields, image};
+
+/// No payload is longer than 60 bytes, no buffer here than this.
+const LONGEST: usize = 70;
+
+pub type Run = for<'a> fn(&'a Side, u64, u64) -> Both<'a>;
+
+pub const ALL: [(&str, Run); 14] = [
+    ("check, up to 2 bytes in full", short_checks),
+    ("check, at random", random_checks),
+    ("read, every id with up to 2 bytes of body", short_payloads),
+    ("read, words, colours, flags, ACKs in full", set_payloads),
+    ("read, popups of every length", popup_payloads),
+    ("read, near every kind", random_payloads),
+    ("write, words, colours, pit bytes in full", set_records),
+    ("write, every kind into 0 to 70 bytes", buffers),
+    ("write, every kind at random", random_records),
+    ("read and written again, near every kind", again),
+    ("text, at random", texts),
+    ("ACK, at random", acks),
+    ("popups of every length, fields, written", popups),
+    ("popups, fields, at random", random_popups),
+];
+
+fn run<'a>(side: &'a Side, work: impl FnOnce(&mut Both<'a>)) -> Both<'a> {
+    let mut both = Both::new(side);
+    work(&mut both);
+    both
+}
+
+fn at_random<'a>(
+    side: &'a Side,
+    rounds: u64,
+    seed: u64,
+    mut work: impl FnMut(&mut Both<'a>, &mut Random),
+) -> Both<'a> {
+    run(side, |both| {
+        let mut random = Random(seed);
+        for _ in 0..rounds {
+            work(both, &mut random);
+        }
+    })
+}
+
+/// Every message of up to two bytes, and every byte from every start.
+pub fn short_checks(side: &Side, _: u64, _: u64) -> Both<'_> {
+    run(side, |both| {
+        both.check(&[], 0);
+        for a in 0..=255 {
+            for b in 0..=255 {
+                both.check(&[a, b], 0);
+                both.check(&[a], b);
+            }
+        }
+    })
+}
+
+/// Messages of up to 64 bytes, whole and in two parts.
+pub fn random_checks(side: &Side, rounds: u64, seed: u64) -> Both<'_> {
+    at_random(side, rounds, seed, |both, random| {
+        let len = random.below(65);
+        let message = random.bytes(len);
+        both.check(&message, 0);
+        let (first, second) = message.split_at(random.below(len + 1));
+        both.check_in_two(first, second);
+    })
+}
+
+pub fn short_payloads(side: &Side, _: u64, _: u64) -> Both<'_> {
+    run(side, |both| {
+        every::short_payloads(|payload| both.read(payload))
+    })
+}
+
+pub fn set_payloads(side: &Side, _: u64, _: u64) -> Both<'_> {
+    run(side, |both| every::payloads(|payload| both.read(payload)))
+}
+
+/// Popups of every length, as payloads.
+pub fn popup_payloads(side: &Side, _: u64, seed: u64) -> Both<'_> {
+    run(side, |both| {
+        popups::every(&mut Random(seed), |popup| {
+            let body = [&[0x01], &popup.data()[..]].concat();
+            both.read(&cases::payload(every::ADDRESSES, SCREEN, &body));
+        })
+    })
+}
+
+/// Of every kind, near it.
+pub fn random_payloads(side: &Side, rounds: u64, seed: u64) -> Both<'_> {
+    at_random(side, rounds, seed, |both, random| {
+        let kind = random.chosen(&KINDS);
+        both.read(&cases::near_payload(random, kind));
+    })
+}
+
+pub fn set_records(side: &Side, _: u64, _: u64) -> Both<'_> {
+    run(side, |both| {
+        let mut room = 0;
+        every::records(|record| {
+            both.write(record, LONGEST);
+            room = (room + 1) % 24;
+            both.write(record, room);
+        })
+    })
+}
+
+/// Records of every kind, each into every length of buffer.
+pub fn buffers(side: &Side, rounds: u64, seed: u64) -> Both<'_> {
+    at_random(side, rounds / 2000, seed, |both, random| {
+        for kind in KINDS {
+            let record = cases::record(random, kind);
+            for room in 0..=LONGEST {
+                both.write(&record, room);
+            }
+        }
+    })
+}
+
+pub fn random_records(side: &Side, rounds: u64, seed: u64) -> Both<'_> {
+    at_random(side, rounds, seed, |both, random| {
+        let kind = random.chosen(&KINDS);
+        let record = cases::record(random, kind);
+        both.write(&record, random.below(LONGEST + 1));
+    })
+}
+
+/// Near every kind, into any length.
+pub fn again(side: &Side, rounds: u64, seed: u64) -> Both<'_> {
+    at_random(side, rounds, seed, |both, random| {
+        let kind = random.chosen(&KINDS);
+        let payload = cases::near_payload(random, kind);
+        both.again(&payload, random.below(LONGEST + 1));
+    })
+}
+
+pub fn texts(side: &Side, rounds: u64, seed: u64) -> Both<'_> {
+    at_random(side, rounds / 4, seed, |both, random| {
+        both.text(&cases::text_bytes(random))
+    })
+}
+
+pub fn acks(side: &Side, rounds: u64, seed: u64) -> Both<'_> {
+    at_random(side, rounds / 4, seed, |both, random| {
+        let (ids, information) = cases::ack(random);
+        both.ack(ids, &information);
+    })
+}
+
+pub fn random_popups(side: &Side, rounds: u64, seed: u64) -> Both<'_> {
+    at_random(side, rounds / 4, seed, |both, random| {
+        both.popup(&cases::fields(random))
+    })
+}
+
+/// Popups of every length whose texts can be made: constructed, inspected and, where they are made, written.
+pub fn popups(side: &Side, _: u64, seed: u64) -> Both<'_> {
+    run(side, |both| {
+        popups::every(&mut Random(seed), |popup| {
+            let Some(fields) = popup.fields() else {
+                return;
+            };
+            both.popup(&fields::of(&fields));
+            let data = popup.data();
+            if image::popup(&data).is_some() {
+                let record = image::with(SCREEN, 0x01, &[], &data);
+                for room in data.len() + 4..data.len() + 7 {
+                    both.write(&record, room);
+                }
+            }
+        })
+    })
+}

@@ -1,0 +1,34 @@
+//! The C boundary as one value, so that either side, or a wrong one, can stand behind it.
+//!
+//! Each function but the check answers a word: document 01's number in bits 0-7 (0: accepted), the count in bits 8-15.
+
+/// What is given, and what is lent.
+pub type Lending = fn(&[u8], &mut [u8]) -> u32;
+
+#[derive(Clone, Copy)]
+pub struct Side {
+    /// Payload, record image.
+    pub read: Lending,
+    /// Record image, buffer.
+    pub write: Lending,
+    /// Payload, buffer: read, and written again.
+    pub again: Lending,
+    /// Bytes, text image.
+    pub text: Lending,
+    /// Command id, sub id and action; information, ACK image.
+    pub ack: fn([u8; 3], &[u8], &mut [u8]) -> u32,
+    /// Image of fields, popup image.
+    pub popup: Lending,
+    /// Popup image, image of fields.
+    pub popup_fields: Lending,
+    /// Bytes, start.
+    pub check: fn(&[u8], u8) -> u8,
+}
+
+pub fn number(word: u32) -> u8 {
+    word as u8
+}
+
+pub fn count(word: u32) -> usize {
+    (word >> 8 & 0xFF) as usize
+}

@@ -1,0 +1,166 @@
+//! The Rust, put behind the same boundary. What it does not have is document 01's: 4 for the families that are left behind, 5 for what
+//! its types cannot hold, a lent slice that keeps its bytes where the answer is a refusal.
+use uf_crsf::packets::{
+    CommandAck, CommandString, CrsfPacket, DirectCommands, ScreenPopup, COMMAND_CRC_ALGO,
+};
+use uf_crsf::CrsfParsingError;
+
+use crate::fields;
+use crate::image;
+use crate::side::Side;
+
+const OVERFLOW: u32 = 3;
+const LEFT_BEHIND: u32 = 4;
+const NOT_MADE: u32 = 5;
+
+pub const ACK_SIZE: usize = 56;
+
+/// Document 01's number of a refusal.
+pub fn number(error: CrsfParsingError) -> u8 {
+    match error {
+        CrsfParsingError::InvalidPayloadLength => 1,
+        CrsfParsingError::InvalidPayload => 2,
+        CrsfParsingError::BufferOverflow => 3,
+        other => panic!("{other:?} is no answer of the direct commands"),
+    }
+}
+
+fn refused(error: CrsfParsingError) -> u32 {
+    number(error).into()
+}
+
+fn word(written: Result<usize, CrsfParsingError>) -> u32 {
+    match written {
+        Ok(count) => (count as u32 % 256) << 8,
+        Err(error) => refused(error),
+    }
+}
+
+pub fn check_in_two(first: &[u8], second: &[u8]) -> u8 {
+    let mut digest = COMMAND_CRC_ALGO.digest();
+    digest.update(first);
+    digest.update(second);
+    digest.finalize()
+}
+
+/// The digest starts at 0 alone. Any other start is added to the first byte, as document 01's remainder has it.
+fn check(bytes: &[u8], start: u8) -> u8 {
+    match bytes {
+        [] => start,
+        [first, rest @ ..] => check_in_two(&[first ^ start], rest),
+    }
+}
+
+/// The check that belongs at the end of a payload of which all else is given.
+pub fn payload_check(all_but_last: &[u8]) -> u8 {
+    check_in_two(&[DirectCommands::PACKET_TYPE as u8], all_but_last)
+}
+
+/// A payload of right length and check whose id is that of a family left behind.
+pub fn left_behind(payload: &[u8]) -> bool {
+    (4..=60).contains(&payload.len())
+        && matches!(payload[2], 0x03 | 0x13)
+        && payload[payload.len() - 1] == payload_check(&payload[..payload.len() - 1])
+}
+
+/// An image handed out at the front of a slice that has room for it.
+fn hand_out<const N: usize>(lent: &mut [u8], image: Result<[u8; N], u32>) -> u32 {
+    match (lent.get_mut(..N), image) {
+        (None, _) => OVERFLOW,
+        (Some(_), Err(number)) => number,
+        (Some(place), Ok(image)) => {
+            place.copy_from_slice(&image);
+            0
+        }
+    }
+}
+
+/// The Rust's own reader, but for the families left behind.
+fn from_bytes(payload: &[u8]) -> Result<DirectCommands, u32> {
+    if left_behind(payload) {
+        return Err(LEFT_BEHIND);
+    }
+    DirectCommands::from_bytes(payload).map_err(refused)
+}
+
+fn read(payload: &[u8], record: &mut [u8]) -> u32 {
+    let image = from_bytes(payload)
+        .map(|command| image::of(&command).expect("a command of a family that is not left behind"));
+    hand_out(record, image)
+}
+
+/// What the Rust's own writer answers; refused, the buffer is put back.
+fn to_bytes(command: &DirectCommands, buffer: &mut [u8]) -> u32 {
+    let lent = buffer.to_vec();
+    let written = command.to_bytes(buffer);
+    if written.is_err() {
+        buffer.copy_from_slice(&lent);
+    }
+    word(written)
+}
+
+fn write(record: &[u8], buffer: &mut [u8]) -> u32 {
+    match image::command(record) {
+        Some(command) => to_bytes(&command, buffer),
+        None => NOT_MADE,
+    }
+}
+
+fn again(payload: &[u8], buffer: &mut [u8]) -> u32 {
+    match from_bytes(payload) {
+        Ok(command) => to_bytes(&command, buffer),
+        Err(number) => number,
+    }
+}
+
+/// The same with nothing done to the buffer: what the benchmark counts.
+pub fn plain_again(payload: &[u8], buffer: &mut [u8]) -> u32 {
+    word(DirectCommands::from_bytes(payload).and_then(|command| command.to_bytes(buffer)))
+}
+
+fn text(bytes: &[u8], text: &mut [u8]) -> u32 {
+    let image = CommandString::new(bytes).map(|made| {
+        let mut image = [0; fields::TEXT_SIZE];
+        fields::put_stored(&mut image, made.as_bytes());
+        image
+    });
+    hand_out(text, image.map_err(refused))
+}
+
+fn ack(ids: [u8; 3], information: &[u8], ack: &mut [u8]) -> u32 {
+    let image = CommandAck::new(ids[0], ids[1], ids[2], information).map(|made| {
+        let mut image = [0; ACK_SIZE];
+        image[..3].copy_from_slice(&[made.command_id, made.sub_command_id, made.action]);
+        fields::put_stored(&mut image[3..], made.information());
+        image
+    });
+    hand_out(ack, image.map_err(refused))
+}
+
+fn popup(given: &[u8], popup: &mut [u8]) -> u32 {
+    let image = fields::fields(given).ok_or(NOT_MADE).and_then(|given| {
+        let made = ScreenPopup::new(&given).map_err(refused)?;
+        let mut image = [0; fields::POPUP_SIZE];
+        fields::put_stored(&mut image, &image::popup_bytes(&made));
+        Ok(image)
+    });
+    hand_out(popup, image)
+}
+
+fn popup_fields(popup: &[u8], out: &mut [u8]) -> u32 {
+    let image = fields::popup(popup)
+        .ok_or(NOT_MADE)
+        .and_then(|popup| popup.fields().map_err(refused));
+    hand_out(out, image.map(|inspected| fields::of(&inspected)))
+}
+
+pub const RUST: Side = Side {
+    read,
+    write,
+    again,
+    text,
+    ack,
+    popup,
+    popup_fields,
+    check,
+};

@@ -1,0 +1,68 @@
+//! The comparison tells a wrong side from a right one: each of these is the Rust itself but for one answer, and the run named with it
+//! sees that.
+mod checks;
+mod makers;
+mod readers;
+mod writers;
+
+use compare::runs::{self, Run};
+use compare::side::Side;
+use compare::theirs::RUST;
+
+const ROUNDS: u64 = 50_000;
+const SEED: u64 = 1;
+
+fn passes(run: Run, right: &Side) {
+    let both = run(right, ROUNDS, SEED);
+    assert_eq!(both.first, None);
+    assert!(both.cases > both.left_behind);
+}
+
+fn is_seen(what: &str, run: Run, wrong: &Side) {
+    let both = run(wrong, ROUNDS, SEED);
+    assert_ne!(both.differing, 0, "{what}");
+    assert!(both.first.is_some(), "{what}");
+}
+
+#[test]
+fn the_right_side_passes() {
+    for (_, run) in runs::ALL {
+        passes(run, &RUST);
+    }
+}
+
+#[test]
+fn the_right_check_by_bit_passes() {
+    let check = |bytes: &[u8], start| checks::by_bit(0xBA, start, bytes);
+    let side = Side { check, ..RUST };
+    passes(runs::short_checks, &side);
+    passes(runs::random_checks, &side);
+}
+
+#[test]
+fn a_wrong_check_is_seen() {
+    for &(what, check) in checks::CHECKS {
+        is_seen(what, runs::random_checks, &Side { check, ..RUST });
+    }
+}
+
+#[test]
+fn a_wrong_reader_is_seen() {
+    for &(what, run, read) in readers::READERS {
+        is_seen(what, run, &Side { read, ..RUST });
+    }
+}
+
+#[test]
+fn a_wrong_writer_is_seen() {
+    for &(what, run, write) in writers::WRITERS {
+        is_seen(what, run, &Side { write, ..RUST });
+    }
+}
+
+#[test]
+fn a_wrong_constructor_or_inspection_is_seen() {
+    for (what, run, wrong) in makers::MAKERS {
+        is_seen(what, *run, wrong);
+    }
+}

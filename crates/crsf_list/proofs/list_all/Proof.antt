@@ -1,0 +1,124 @@
+-- `list_all` meets its contract. Assumes nothing.
+use borrow.Author.Needs.{needs}
+use Prim.Native.Nat.{_-_, _≤_}
+use mathlib.Core.Path.{_≡_}
+use lib.ListN.{length}
+use Rattle.crsf_list.proofs.list_all.Statement.{statement}
+use Rattle.crsf_list.proofs.list_all.Tie as tie
+
+abbrev Inv-loop : tie.InvT-loop
+Inv-loop input₀ text₀ s₀ n₀ turn₀ t10 input text s n turn = ((n ≤ length text₀) × (length text ≡ length text₀)) × (length input ≡ length input₀)
+
+abbrev μ-loop : tie.MeasureT-loop
+μ-loop input₀ text₀ s₀ n₀ turn₀ t10 input text s n turn = 18446744073709551615 - turn
+
+new-requires : tie.Need-new-requires Inv-loop μ-loop
+new-requires c κs = search needs
+
+loop-holds : tie.Need-loop-holds Inv-loop μ-loop
+loop-holds c = search needs
+
+read-requires : tie.Need-read-requires Inv-loop μ-loop
+read-requires c κs = search needs
+
+slice-aggregate-fail : tie.Need-slice-aggregate-fail Inv-loop μ-loop
+slice-aggregate-fail c = search needs
+
+fail-requires : tie.Need-fail-requires Inv-loop μ-loop
+fail-requires c κs = search needs
+
+write-out-requires : tie.Need-write-out-requires Inv-loop μ-loop
+write-out-requires c κs = search needs
+
+same-length : tie.Need-same-length Inv-loop μ-loop
+same-length c = search needs
+
+same-length-2 : tie.Need-same-length-2 Inv-loop μ-loop
+same-length-2 c = search needs
+
+returns : tie.Need-returns Inv-loop μ-loop
+returns c = search needs
+
+close-requires : tie.Need-close-requires Inv-loop μ-loop
+close-requires c κs = search needs
+
+same-length-3 : tie.Need-same-length-3 Inv-loop μ-loop
+same-length-3 c = search needs
+
+same-length-4 : tie.Need-same-length-4 Inv-loop μ-loop
+same-length-4 c = search needs
+
+returns-2 : tie.Need-returns-2 Inv-loop μ-loop
+returns-2 c = search needs
+
+count-requires : tie.Need-count-requires Inv-loop μ-loop
+count-requires c κs = search needs
+
+slice-reshare-prefix-list-chunk : tie.Need-slice-reshare-prefix-list-chunk Inv-loop μ-loop
+slice-reshare-prefix-list-chunk c = search needs
+
+slice-aggregate-list-chunk : tie.Need-slice-aggregate-list-chunk Inv-loop μ-loop
+slice-aggregate-list-chunk c = search needs
+
+list-chunk-requires : tie.Need-list-chunk-requires Inv-loop μ-loop
+list-chunk-requires c κs = search needs
+
+same-length-5 : tie.Need-same-length-5 Inv-loop μ-loop
+same-length-5 c = search needs
+
+same-length-6 : tie.Need-same-length-6 Inv-loop μ-loop
+same-length-6 c = search needs
+
+returns-3 : tie.Need-returns-3 Inv-loop μ-loop
+returns-3 c = search needs
+
+add-turn : tie.Need-add-turn Inv-loop μ-loop
+add-turn c = search needs
+
+loop-less : tie.Need-loop-less Inv-loop μ-loop
+loop-less c = search needs
+
+loop-again : tie.Need-loop-again Inv-loop μ-loop
+loop-again c = search needs
+
+same-length-7 : tie.Need-same-length-7 Inv-loop μ-loop
+same-length-7 c = search needs
+
+same-length-8 : tie.Need-same-length-8 Inv-loop μ-loop
+same-length-8 c = search needs
+
+returns-4 : tie.Need-returns-4 Inv-loop μ-loop
+returns-4 c = search needs
+
+pub list-all-spec : {M : Type 1} → statement M
+list-all-spec =
+    tie.close
+    (tie.spec
+    Inv-loop
+    μ-loop
+    new-requires
+    loop-holds
+    read-requires
+    slice-aggregate-fail
+    fail-requires
+    write-out-requires
+    same-length
+    same-length-2
+    returns
+    close-requires
+    same-length-3
+    same-length-4
+    returns-2
+    count-requires
+    slice-reshare-prefix-list-chunk
+    slice-aggregate-list-chunk
+    list-chunk-requires
+    same-length-5
+    same-length-6
+    returns-3
+    add-turn
+    loop-less
+    loop-again
+    same-length-7
+    same-length-8
+    returns-4)

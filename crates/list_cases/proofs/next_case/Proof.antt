@@ -1,0 +1,88 @@
+-- `next_case` meets its contract. Assumes nothing.
+use mathlib.Core.Path.{sym}
+use native.Mathlib.Omega.{arith}
+use lib.Seq.{length-take-le}
+use borrow.Author.Needs.{needs}
+use Rattle.list_cases.proofs.next_case.Statement.{statement}
+use Rattle.list_cases.proofs.next_case.Tie as tie
+
+read-case-requires : tie.Need-read-case-requires
+read-case-requires c κs = search needs
+
+enum-known-n : tie.Need-enum-known-n
+enum-known-n c = search needs
+
+slice-reshare-prefix-list-case : tie.Need-slice-reshare-prefix-list-case
+slice-reshare-prefix-list-case c = search needs
+
+slice-aggregate-list-case : tie.Need-slice-aggregate-list-case
+slice-aggregate-list-case c = sym (length-take-le (c .before .before .before .n .given .0 .0) (c .before .before .before .before .before .before .before .read-case .last .0) (omega (arith, c .before .if1 .taken)))
+
+list-case-requires : tie.Need-list-case-requires
+list-case-requires c κs = search needs
+
+enum-told : tie.Need-enum-told
+enum-told c = search needs
+
+slice-aggregate-write-all : tie.Need-slice-aggregate-write-all
+slice-aggregate-write-all c = search needs
+
+write-all-requires : tie.Need-write-all-requires
+write-all-requires c κs = search needs
+
+enum-told-2 : tie.Need-enum-told-2
+enum-told-2 c = search needs
+
+same-length : tie.Need-same-length
+same-length c = search needs
+
+same-length-2 : tie.Need-same-length-2
+same-length-2 c = search needs
+
+same-length-3 : tie.Need-same-length-3
+same-length-3 c = search needs
+
+returns : tie.Need-returns
+returns c = search needs
+
+same-length-4 : tie.Need-same-length-4
+same-length-4 c = search needs
+
+returns-2 : tie.Need-returns-2
+returns-2 c = search needs
+
+same-length-5 : tie.Need-same-length-5
+same-length-5 c = search needs
+
+returns-3 : tie.Need-returns-3
+returns-3 c = search needs
+
+same-length-6 : tie.Need-same-length-6
+same-length-6 c = search needs
+
+returns-4 : tie.Need-returns-4
+returns-4 c = search needs
+
+pub next-case-spec : {M : Type 1} → statement M
+next-case-spec =
+    tie.close
+    (tie.spec
+    read-case-requires
+    enum-known-n
+    slice-reshare-prefix-list-case
+    slice-aggregate-list-case
+    list-case-requires
+    enum-told
+    slice-aggregate-write-all
+    write-all-requires
+    enum-told-2
+    same-length
+    same-length-2
+    same-length-3
+    returns
+    same-length-4
+    returns-2
+    same-length-5
+    returns-3
+    same-length-6
+    returns-4)

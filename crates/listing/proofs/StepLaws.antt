@@ -1,0 +1,171 @@
+-- The step of the listing, case by case. Assumes nothing.
+use Prim.Native.Nat.{ℕ, _+_, _-_, _<_, _≤_}
+use mathlib.Core.Bool.{Bool, true, false}
+use mathlib.Core.List.{List, _++_}
+use mathlib.Core.Path.{_≡_, refl, ap, sym, _∙_}
+use native.Mathlib.Omega.{arith}
+use borrow.Author.Tests.{lt-ltb, le-ltb, le-leb, lt-leb, eq-eqb, ne-eqb, ltb-true, leb-false}
+use lib.ListN.{length, take, drop, getD, length-append}
+use lib.Seq.{sets, sets-eq, take-at, length-take-le}
+use lib.Dec.{ltb, leb, eqb}
+use Rattle.codec.specs.Pick.{pick}
+use Rattle.codec.specs.Sheet.{Answer, refused}
+use Rattle.codec.specs.Writing.{putAt}
+use Rattle.codec.specs.declared.refusal.Refusal.the-variants.{RecordNotMade}
+use Rattle.codec.proofs.Writes.{put-fits}
+use Rattle.commands.specs.Reading.{readCommand}
+use Rattle.commands.specs.declared.DirectCommands.{DirectCommands}
+use Rattle.listing.specs.Listing.{lineOf}
+use Rattle.listing.specs.Step.{inLimits, opened, keptWith, lineWith, goOn, stepOf, closing}
+use Rattle.listing.specs.declared.line.Line.{Line}
+use Rattle.listing.specs.declared.line.Line.the-variants.{Cut, End, Refused as LineRefused}
+use Rattle.listing.specs.declared.Listing.{Listing}
+use Rattle.listing.specs.declared.Listed.the-variants.{Line as Found, Nothing, Refused}
+use Rattle.listing.specs.declared.Step.{Step}
+
+pub picked : {A : Type 0} (b : Bool) (x y : A) → b ≡ true → pick b x y ≡ x
+picked true x y e = refl
+picked false x y e = let z : _≡_ {A = ℕ} 0 1 = cc in absurd (omega arith)
+
+pub passed : {A : Type 0} (b : Bool) (x y : A) → b ≡ false → pick b x y ≡ y
+passed false x y e = refl
+passed true x y e = let z : _≡_ {A = ℕ} 0 1 = cc in absurd (omega arith)
+
+-- ---- limits
+limits : (a b c : Bool) (x y : Bool) → pick a false (pick b false (pick c x y)) ≡ true
+    → (a ≡ false) × ((b ≡ false) × ((c ≡ true → x ≡ true) × (c ≡ false → y ≡ true)))
+limits true b c x y e = let z : _≡_ {A = ℕ} 0 1 = cc in absurd (omega arith)
+limits false true c x y e = let z : _≡_ {A = ℕ} 0 1 = cc in absurd (omega arith)
+limits false false true x y e = (refl, (refl, ((λ h. e), (λ h. let z : _≡_ {A = ℕ} 0 1 = cc in absurd (omega arith)))))
+limits false false false x y e = (refl, (refl, ((λ h. let z : _≡_ {A = ℕ} 0 1 = cc in absurd (omega arith)), (λ h. e))))
+
+module _ (s : Listing) (h : inLimits s ≡ true) where
+  parts : (leb 18446744073709551615 (s .count) ≡ false) × ((ltb 255 (s .wanted) ≡ false) × ((eqb (s .wanted) 0 ≡ true → eqb (s .held) 0 ≡ true) × (eqb (s .wanted) 0 ≡ false → ltb (s .held) (s .wanted) ≡ true)))
+  parts = limits (leb 18446744073709551615 (s .count)) (ltb 255 (s .wanted)) (eqb (s .wanted) 0) (eqb (s .held) 0) (ltb (s .held) (s .wanted)) h
+
+  pub limit-count : s .count < 18446744073709551615
+  limit-count = leb-false 18446744073709551615 (s .count) (parts .0)
+
+  pub limit-held : (s .wanted ≡ 0 → ⊥) → s .held < s .wanted
+  limit-held n = ltb-true (s .held) (s .wanted) (parts .1 .1 .1 (ne-eqb (s .wanted) 0 n))
+
+-- a state that is in its limits
+pub limits-between : (s : Listing) → s .count < 18446744073709551615 → s .wanted ≡ 0 → s .held ≡ 0 → inLimits s ≡ true
+limits-between s a b c =
+    passed (leb 18446744073709551615 (s .count)) _ _ (lt-leb 18446744073709551615 (s .count) a)
+    ∙ passed (ltb 255 (s .wanted)) _ _ (le-ltb 255 (s .wanted) (omega arith))
+    ∙ picked (eqb (s .wanted) 0) _ _ (eq-eqb (s .wanted) 0 b)
+    ∙ eq-eqb (s .held) 0 c
+
+pub limits-inside : (s : Listing) → s .count < 18446744073709551615 → s .wanted ≤ 255 → s .held < s .wanted → inLimits s ≡ true
+limits-inside s a b c =
+    passed (leb 18446744073709551615 (s .count)) _ _ (lt-leb 18446744073709551615 (s .count) a)
+    ∙ passed (ltb 255 (s .wanted)) _ _ (le-ltb 255 (s .wanted) b)
+    ∙ passed (eqb (s .wanted) 0) _ _ (ne-eqb (s .wanted) 0 (λ e. omega arith))
+    ∙ lt-ltb (s .held) (s .wanted) c
+
+-- ---- a record that goes on
+pub goes-none : (s : Listing) (i : List ℕ) (at : ℕ) → length i - at < s .wanted - s .held
+    → goOn s i at ≡ record { state = keptWith s (drop at i); at = length i; listed = Nothing }
+goes-none s i at h = picked (ltb (length i - at) (s .wanted - s .held)) _ _ (lt-ltb (length i - at) (s .wanted - s .held) h)
+
+pub goes-line : (s : Listing) (i : List ℕ) (at : ℕ) → s .wanted - s .held ≤ length i - at
+    → goOn s i at ≡ record { state = opened (s .count + 1) 0; at = at + (s .wanted - s .held); listed = Found (lineWith s (take (s .wanted - s .held) (drop at i))) }
+goes-line s i at h = passed (ltb (length i - at) (s .wanted - s .held)) _ _ (le-ltb (length i - at) (s .wanted - s .held) h)
+
+-- what the code makes of the two
+pub made-none : (s₀ s t : Listing) (i part : List ℕ) (at : ℕ) → s ≡ s₀ → t ≡ keptWith s part → part ≡ drop at i → length i - at < s₀ .wanted - s₀ .held
+    → _≡_ {A = Step} (record { state = t; at = length i; listed = Nothing }) (goOn s₀ i at)
+made-none s₀ s t i part at e f g l =
+    let k : t ≡ keptWith s₀ (drop at i) = f ∙ ap (λ (x : Listing). keptWith x part) e ∙ ap (λ (p : List ℕ). keptWith s₀ p) g in
+    ap (λ (x : Listing). record { state = x; at = length i; listed = Nothing }) k ∙ sym (goes-none s₀ i at l)
+
+pub made-line : (s₀ t : Listing) (r : Line) (i part : List ℕ) (at end : ℕ) → t ≡ opened (s₀ .count + 1) 0 → end ≡ at + (s₀ .wanted - s₀ .held)
+    → r ≡ lineWith s₀ part → part ≡ take (s₀ .wanted - s₀ .held) (drop at i) → s₀ .wanted - s₀ .held ≤ length i - at
+    → _≡_ {A = Step} (record { state = t; at = end; listed = Found r }) (goOn s₀ i at)
+made-line s₀ t r i part at end e n f g l =
+    let k : r ≡ lineWith s₀ (take (s₀ .wanted - s₀ .held) (drop at i)) = f ∙ ap (λ (p : List ℕ). lineWith s₀ p) g in
+    ap (λ (x : Listing). record { state = x; at = end; listed = Found r }) e
+    ∙ ap (λ (m : ℕ). record { state = opened (s₀ .count + 1) 0; at = m; listed = Found r }) n
+    ∙ ap (λ (x : Line). record { state = opened (s₀ .count + 1) 0; at = at + (s₀ .wanted - s₀ .held); listed = Found x }) k
+    ∙ sym (goes-line s₀ i at l)
+
+-- ---- the step
+pub step-refused : (s : Listing) (i : List ℕ) (at : ℕ) → inLimits s ≡ false → stepOf s i at ≡ record { state = s; at = at; listed = Refused RecordNotMade }
+step-refused s i at h = passed (inLimits s) _ _ h
+
+module _ (s : Listing) (i : List ℕ) (at : ℕ) (h : inLimits s ≡ true) where
+  pub step-none : length i ≤ at → stepOf s i at ≡ record { state = s; at = at; listed = Nothing }
+  step-none l = picked (inLimits s) _ _ h ∙ picked (leb (length i) at) _ _ (le-leb (length i) at l)
+
+  pub step-opens : at < length i → s .wanted ≡ 0 → stepOf s i at ≡ goOn (opened (s .count) (getD i at 0)) i (at + 1)
+  step-opens l e =
+      picked (inLimits s) _ _ h
+      ∙ passed (leb (length i) at) _ _ (lt-leb (length i) at l)
+      ∙ picked (eqb (s .wanted) 0) _ _ (eq-eqb (s .wanted) 0 e)
+
+  pub step-goes : at < length i → (s .wanted ≡ 0 → ⊥) → stepOf s i at ≡ goOn s i at
+  step-goes l e =
+      picked (inLimits s) _ _ h
+      ∙ passed (leb (length i) at) _ _ (lt-leb (length i) at l)
+      ∙ passed (eqb (s .wanted) 0) _ _ (ne-eqb (s .wanted) 0 e)
+
+-- ---- the end
+pub closing-end : (s : Listing) → inLimits s ≡ true → s .wanted ≡ 0 → closing s ≡ Found (End (s .count))
+closing-end s h e = picked (inLimits s) _ _ h ∙ picked (eqb (s .wanted) 0) _ _ (eq-eqb (s .wanted) 0 e)
+
+pub closing-cut : (s : Listing) → inLimits s ≡ true → (s .wanted ≡ 0 → ⊥) → closing s ≡ Found (Cut (s .count))
+closing-cut s h e = picked (inLimits s) _ _ h ∙ passed (eqb (s .wanted) 0) _ _ (ne-eqb (s .wanted) 0 e)
+
+pub closing-refused : (s : Listing) → inLimits s ≡ false → closing s ≡ Refused RecordNotMade
+closing-refused s h = passed (inLimits s) _ _ h
+
+-- ---- what is kept, and the line of it
+-- the same state with these bytes
+abbrev pub holding : Listing → ℕ → List ℕ → Listing
+holding s n b = record { count = s .count; wanted = s .wanted; held = n; bytes = b }
+
+pub kept-long : (s : Listing) (t : List ℕ) → 60 < s .wanted → holding s (s .held + length t) (s .bytes) ≡ keptWith s t
+kept-long s t h = ap (λ (b : List ℕ). holding s (s .held + length t) b) (sym (picked (ltb 60 (s .wanted)) _ _ (lt-ltb 60 (s .wanted) h)))
+
+pub kept-short : (s : Listing) (t b : List ℕ) → s .wanted ≤ 60 → length (s .bytes) ≡ 60 → s .held + length t < s .wanted → b ≡ putAt (s .bytes) (s .held) t
+    → holding s (s .held + length t) b ≡ keptWith s t
+kept-short s t b h l f e =
+    ap (λ (x : List ℕ). holding s (s .held + length t) x)
+    (e ∙ put-fits (s .bytes) (s .held) t (omega arith) ∙ sym (passed (ltb 60 (s .wanted)) _ _ (le-ltb 60 (s .wanted) h)))
+
+pub line-long : (s : Listing) (t : List ℕ) (n : ℕ) → 60 < s .wanted → n ≡ 1 → LineRefused (s .count) n ≡ lineWith s t
+line-long s t n h e =
+    ap (λ (m : ℕ). LineRefused (s .count) m) e ∙ sym (ap (λ (a : Answer DirectCommands). lineOf (s .count) a) (picked (ltb 60 (s .wanted)) _ _ (lt-ltb 60 (s .wanted) h)))
+
+pub take-put : (b t : List ℕ) (at n : ℕ) → at + length t ≡ n → n ≤ length b → take n (sets b at t) ≡ take at b ++ t
+take-put b t at n e l =
+    let f : at + length t ≤ length b = omega arith in
+    let k : length (take at b) ≡ at = length-take-le at b (omega arith) in
+    let g : length (take at b ++ t) ≡ n = rw (length-append (take at b) t, k) e in
+    ap (λ (x : List ℕ). take n x) (sets-eq t b at f)
+    ∙ take-at (take at b ++ t) (drop (at + length t) b) n g
+
+pub line-joined : (s : Listing) (t b : List ℕ) (r : Line) → s .wanted ≤ 60 → length (s .bytes) ≡ 60 → s .held + length t ≡ s .wanted
+    → b ≡ putAt (s .bytes) (s .held) t → r ≡ lineOf (s .count) (readCommand (take (s .wanted) b)) → r ≡ lineWith s t
+line-joined s t b r h l e f g =
+    let k : take (s .wanted) b ≡ take (s .held) (s .bytes) ++ t =
+    ap (λ (x : List ℕ). take (s .wanted) x) (f ∙ put-fits (s .bytes) (s .held) t (omega arith)) ∙ take-put (s .bytes) t (s .held) (s .wanted) e (omega arith) in
+    g
+    ∙ ap (λ (p : List ℕ). lineOf (s .count) (readCommand p)) k
+    ∙ ap (λ (a : Answer DirectCommands). lineOf (s .count) a) (sym (passed (ltb 60 (s .wanted)) _ _ (le-ltb 60 (s .wanted) h)))
+
+-- "Length .. above 60: 1", whatever it holds
+pub read-long : (p : List ℕ) → 60 < length p → readCommand p ≡ refused 1 0
+read-long p h =
+    passed (ltb (length p) 4) _ _ (le-ltb (length p) 4 (omega arith)) ∙ picked (ltb 60 (length p)) _ _ (lt-ltb 60 (length p) h)
+
+-- a payload that lies whole in the chunk
+pub line-whole : (k n : ℕ) (t : List ℕ) → length t ≡ n → lineOf k (readCommand t) ≡ lineWith (opened k n) t
+line-whole k n t e = by (ltb 60 n) refl
+  where
+    by : (b : Bool) → ltb 60 n ≡ b → lineOf k (readCommand t) ≡ lineWith (opened k n) t
+    by true g =
+        let l = ltb-true 60 n g in
+        ap (λ (a : Answer DirectCommands). lineOf k a) (read-long t (omega arith) ∙ sym (picked (ltb 60 n) (refused 1 0) (readCommand t) g))
+    by false g = ap (λ (a : Answer DirectCommands). lineOf k a) (sym (passed (ltb 60 n) (refused 1 0) (readCommand t) g))

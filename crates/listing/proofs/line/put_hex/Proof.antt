@@ -1,0 +1,33 @@
+-- `line::put_hex` meets its contract. Assumes nothing.
+use borrow.Author.Needs.{needs}
+use Rattle.listing.proofs.line.put_hex.Statement.{statement}
+use Rattle.listing.proofs.line.put_hex.Tie as tie
+
+hex-digit-requires : tie.Need-hex-digit-requires
+hex-digit-requires c κs = search needs
+
+hex-digit-requires-2 : tie.Need-hex-digit-requires-2
+hex-digit-requires-2 c κs = search needs
+
+slice-aggregate-put-word : tie.Need-slice-aggregate-put-word
+slice-aggregate-put-word c = search needs
+
+put-word-requires : tie.Need-put-word-requires
+put-word-requires c κs = search needs
+
+same-length : tie.Need-same-length
+same-length c = search needs
+
+returns : tie.Need-returns
+returns c = (c .before .before .put-word .ensures .0, rw (c .before .before .before .before .before .before .hex-digit .ensures, c .before .before .before .before .before .hex-digit2 .ensures) at (c .before .before .put-word .ensures .1))
+
+pub put-hex-spec : {M : Type 1} → statement M
+put-hex-spec =
+    tie.close
+    (tie.spec
+    hex-digit-requires
+    hex-digit-requires-2
+    slice-aggregate-put-word
+    put-word-requires
+    same-length
+    returns)

@@ -1,0 +1,4 @@
+pub mod Listing
+pub mod Text
+pub mod Step
+pub mod Chunks

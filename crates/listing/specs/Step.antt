@@ -1,0 +1,72 @@
+-- One step of the listing over a chunk, and the state that is kept between chunks. Assumes nothing.
+use Prim.Native.Nat.{ℕ, _+_, _-_}
+use mathlib.Core.Bool.{Bool, false}
+use mathlib.Core.List.{List, [], _∷_, _++_}
+use lib.ListN.{length, take, drop, getD, replicate}
+use lib.Seq.{sets}
+use lib.Dec.{ltb, leb, eqb}
+use Rattle.codec.specs.Pick.{pick}
+use Rattle.codec.specs.Sheet.{Answer, got, refused}
+use Rattle.codec.specs.Refusals.{refusalNumber}
+use Rattle.codec.specs.declared.refusal.Refusal.the-variants.{RecordNotMade}
+use Rattle.commands.specs.Reading.{readCommand}
+use Rattle.listing.specs.Listing.{lineOf}
+use Rattle.listing.specs.declared.line.Line.{Line}
+use Rattle.listing.specs.declared.line.Line.the-variants.{Cut, End}
+use Rattle.listing.specs.declared.Listing.{Listing}
+use Rattle.listing.specs.declared.Listed.{Listed}
+use Rattle.listing.specs.declared.Listed.the-variants.{Line as Found, Nothing, Refused}
+use Rattle.listing.specs.declared.Step.{Step}
+
+-- what an answer tells: its lines, or its number
+abbrev pub toldListed : Listed → Answer (List Line)
+toldListed (Found l) = got (l ∷ [])
+toldListed Nothing = got []
+toldListed (Refused r) = refused (refusalNumber r) 0
+
+-- a state's own limits: a count that can be raised; between records both numbers 0, else fewer bytes held than wanted
+abbrev pub inLimits : Listing → Bool
+inLimits s =
+    pick (leb 18446744073709551615 (s .count)) false
+    (pick (ltb 255 (s .wanted)) false
+    (pick (eqb (s .wanted) 0) (eqb (s .held) 0) (ltb (s .held) (s .wanted))))
+
+-- record k, of n payload bytes, none of which has come; n is 0 between records
+abbrev pub opened : ℕ → ℕ → Listing
+opened k n = record { count = k; wanted = n; held = 0; bytes = replicate 60 0 }
+
+-- with more of its bytes; of a payload over 60 bytes none matters
+abbrev pub keptWith : Listing → List ℕ → Listing
+keptWith s t = record {
+  count = s .count;
+  wanted = s .wanted;
+  held = s .held + length t;
+  bytes = pick (ltb 60 (s .wanted)) (s .bytes) (sets (s .bytes) (s .held) t);
+}
+
+-- its line, with the last of its bytes
+abbrev pub lineWith : Listing → List ℕ → Line
+lineWith s t = lineOf (s .count) (pick (ltb 60 (s .wanted)) (refused 1 0) (readCommand (take (s .held) (s .bytes) ++ t)))
+
+-- a record that goes on at a place of a chunk: to its end, or to the chunk's
+abbrev pub goOn : Listing → List ℕ → ℕ → Step
+goOn s i at =
+    pick (ltb (length i - at) (s .wanted - s .held))
+    (record { state = keptWith s (drop at i); at = length i; listed = Nothing })
+    (record {
+      state = opened (s .count + 1) 0;
+      at = at + (s .wanted - s .held);
+      listed = Found (lineWith s (take (s .wanted - s .held) (drop at i)));
+    })
+
+-- THE step. "A state handed in beyond its own limits .. is 5, before all else, and comes back as it was."
+abbrev pub stepOf : Listing → List ℕ → ℕ → Step
+stepOf s i at =
+    pick (inLimits s)
+    (pick (leb (length i) at) (record { state = s; at = at; listed = Nothing })
+    (pick (eqb (s .wanted) 0) (goOn (opened (s .count) (getD i at 0)) i (at + 1)) (goOn s i at)))
+    (record { state = s; at = at; listed = Refused RecordNotMade })
+
+-- the input has ended
+abbrev pub closing : Listing → Listed
+closing s = pick (inLimits s) (pick (eqb (s .wanted) 0) (Found (End (s .count))) (Found (Cut (s .count)))) (Refused RecordNotMade)
