@@ -13,10 +13,16 @@ use Rattle.commands.specs.Reading.{readCommand, CommandIs}
 use Rattle.commands.specs.Writing.{payloadOf, stopWriting}
 use Rattle.commands.specs.declared.DirectCommands.{DirectCommands}
 use Rattle.commands.specs.declared.CommandAnswer.{CommandAnswer}
+use Rattle.commands.proofs.DirectCommands.blank.Reads as blank
+use Rattle.commands.proofs.DirectCommands.blank.Kinds as blank-kinds
 use Rattle.commands.proofs.DirectCommands.from_bytes.Reads as read
 use Rattle.commands.proofs.DirectCommands.from_bytes.Kinds as read-kinds
 use Rattle.commands.proofs.DirectCommands.to_bytes.Reads as write
 use Rattle.commands.proofs.DirectCommands.to_bytes.Kinds as write-kinds
+
+pub blank-one : (κs : Lfts 0) (a : Dens κs blank-kinds.ps) (x y : resT blank-kinds.r κs .Denot) (s t : AtExit (endedOf 0 blank-kinds.ps blank-kinds.r) κs)
+    → blank.Post κs a x s → blank.Post κs a y t → x ≡ y
+blank-one κs a x y s t p q = p ∙ sym q
 
 answer-one : (a : Answer DirectCommands) (x y : CommandAnswer) → CommandIs a x → CommandIs a y → x ≡ y
 answer-one a x y p q = rw (outcome-one (x .outcome) (y .outcome) (p .0 ∙ sym (q .0)), p .1 ∙ sym (q .1))

@@ -1,10 +1,10 @@
 // The payload of a frame of type 0x32, whole: the Rust's commands.rs.
 ghost use mathlib.Core.Path.{_≡_};
 ghost use lib.ListN.{length};
-ghost use Rattle.codec.specs.Sheet.{got, refused};
+ghost use Rattle.codec.specs.Sheet.{refused};
 ghost use Rattle.codec.specs.Refusals.{refusalNumber};
 ghost use Rattle.codec.specs.Told.{Writes};
-ghost use Rattle.commands.specs.Command.{blankCommand, made};
+ghost use Rattle.commands.specs.Command.{blankCommand};
 ghost use Rattle.commands.specs.Reading.{readCommand, CommandIs};
 ghost use Rattle.commands.specs.Writing.{payloadOf, stopWriting};
 use codec::refusal::Outcome;
@@ -40,7 +40,7 @@ impl DirectCommands {
     pub const PACKET_TYPE: u8 = 0x32;
 
     // Disarm, both addresses 0, no stored bytes.
-    fn blank() -> DirectCommands
+    pub fn blank() -> DirectCommands
         ensures { λ r. ⌜ r ≡ blankCommand ⌝ }
     {
         DirectCommands {

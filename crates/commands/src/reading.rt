@@ -1,6 +1,5 @@
 // A body, by its command id.
 ghost use Rattle.codec.specs.Sheet.{got};
-ghost use Rattle.families.specs.Text.{padded};
 ghost use Rattle.commands.specs.Command.{kept, commandOf};
 ghost use Rattle.commands.specs.Reading.{readAs, CommandIs};
 ghost use mathlib.Core.List.{[]};

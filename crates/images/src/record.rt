@@ -12,7 +12,6 @@ use codec::refusal::Outcome;
 use codec::refusal::Refusal;
 use commands::CommandAnswer;
 use commands::DirectCommands;
-use families::fc::FcCommand;
 use families::payload::CommandPayload;
 
 pub const SIZE: usize = 70;
@@ -67,13 +66,7 @@ fn not_made() -> CommandAnswer
 {
     CommandAnswer {
         outcome: Outcome::Refused(Refusal::RecordNotMade),
-        command: DirectCommands {
-            dst_addr: 0,
-            src_addr: 0,
-            payload: CommandPayload::Fc(FcCommand::ForceDisarm),
-            len: 0,
-            bytes: [0u8; 55],
-        },
+        command: DirectCommands::blank(),
     }
 }
 

@@ -4,7 +4,7 @@ ghost use mathlib.Core.List.{_∷_, [], _++_};
 ghost use Prim.Native.Nat.{_+_, _*_, _/_, _%_, _<_, _≤_};
 ghost use lib.ListN.{length};
 ghost use Rattle.codec.specs.Digits.{numberOf, bytesOf};
-ghost use Rattle.images.specs.Values.{laid, fcLaid, osdLaid, vtxLaid, colourBytes, ledLaid, generalLaid, crossfireLaid, flowLaid, screenLaid, ackLaid, payloadLaid, wordAt, longAt, colourAt, fcAt, osdAt, vtxAt, ledAt, generalAt, crossfireAt, flowAt, screenAt, ackAt, payloadAt};
+ghost use Rattle.images.specs.Values.{laid, fcLaid, vtxLaid, colourBytes, ledLaid, generalLaid, crossfireLaid, flowLaid, screenLaid, ackLaid, payloadLaid, wordAt, longAt, colourAt, fcAt, vtxAt, ledAt, generalAt, crossfireAt, flowAt, screenAt, ackAt, payloadAt};
 use families::ack::CommandAck;
 use families::crossfire::CrossfireCommand;
 use families::fc::FcCommand;
