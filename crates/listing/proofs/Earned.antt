@@ -12,10 +12,15 @@ use denote.Triple.Clauses.{AtExit}
 use denote.Ref.{now}
 use lib.ListN.{length, take, drop, getD, length-drop}
 use lib.Dec.{ltb, leb, eqb}
+use Rattle.crc.specs.Check.{Bytes}
 use Rattle.codec.specs.Pick.{pick}
 use Rattle.codec.specs.Sheet.{Answer, got, refused}
+use Rattle.codec.specs.Writing.{counted}
+use Rattle.families.specs.Payload.{familyId}
 use Rattle.commands.specs.Reading.{readCommand}
+use Rattle.commands.specs.Writing.{payloadOf, stopWriting}
 use Rattle.commands.specs.declared.DirectCommands.{DirectCommands}
+use Rattle.commands.proofs.Forth.{read-fits}
 use Rattle.listing.specs.Listing.{lineOf, linesFrom, listing}
 use Rattle.listing.specs.Step.{inLimits, opened, goOn, stepOf}
 use Rattle.listing.specs.declared.line.Line.{Line}
@@ -98,3 +103,10 @@ pub not-uncounted : (κs : Lfts 1) (a : Dens κs next-kinds.ps) (x : resT next-k
 not-uncounted κs a x s l p e f =
     let g : x .state .count ≡ a .0 .count + 1 = next-earned κs a x s p ∙ ap (λ (y : Listed). a .0 .count + earned y) e in
     omega arith
+
+-- ---- "The last number in a read line is the written length": the count that writing gives
+pub written-length : (k : ℕ) (p : List ℕ) (c : DirectCommands) → Bytes p → readCommand p ≡ got c
+    → (n : ℕ) × ((lineOf k (readCommand p) ≡ Read k (familyId (c .payload)) n) × (counted (stopWriting c 60) (length (payloadOf c)) ≡ got n))
+written-length k p c y h =
+    let n = length (payloadOf c) in
+    (n, (ap (λ (a : Answer DirectCommands). lineOf k a) h, ap (λ (m : ℕ). counted m n) (read-fits p c y h .1)))
