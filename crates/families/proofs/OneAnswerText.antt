@@ -21,8 +21,6 @@ use Rattle.families.specs.declared.ack.CommandAck.{CommandAck}
 use Rattle.families.specs.declared.ack.AckAnswer.{AckAnswer}
 use Rattle.families.proofs.text.CommandString.new.Reads as new-text
 use Rattle.families.proofs.text.CommandString.new.Kinds as new-text-kinds
-use Rattle.families.proofs.text.CommandString.made.Reads as made-text
-use Rattle.families.proofs.text.CommandString.made.Kinds as made-text-kinds
 use Rattle.families.proofs.text.made_bytes.Reads as made-bytes
 use Rattle.families.proofs.text.made_bytes.Kinds as made-bytes-kinds
 use Rattle.families.proofs.ack.CommandAck.new.Reads as new-ack
@@ -58,10 +56,6 @@ new-text-one κs a x y s t p q = text-one (newText (now (a .0))) x y p q
 pub made-bytes-one : (κs : Lfts 1) (a : Dens κs made-bytes-kinds.ps) (x y : resT made-bytes-kinds.r κs .Denot) (s t : AtExit (endedOf 1 made-bytes-kinds.ps made-bytes-kinds.r) κs)
     → made-bytes.Post κs a x s → made-bytes.Post κs a y t → x ≡ y
 made-bytes-one κs a x y s t p q = p ∙ sym q
-
-pub made-text-one : (κs : Lfts 0) (a : Dens κs made-text-kinds.ps) (x y : resT made-text-kinds.r κs .Denot) (s t : AtExit (endedOf 0 made-text-kinds.ps made-text-kinds.r) κs)
-    → made-text.Post κs a x s → made-text.Post κs a y t → x ≡ y
-made-text-one κs a x y s t p q = p ∙ sym q
 
 pub new-ack-one : (κs : Lfts 1) (a : Dens κs new-ack-kinds.ps) (x y : resT new-ack-kinds.r κs .Denot) (s t : AtExit (endedOf 1 new-ack-kinds.ps new-ack-kinds.r) κs)
     → new-ack.Post κs a x s → new-ack.Post κs a y t → x ≡ y

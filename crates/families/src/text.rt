@@ -124,7 +124,7 @@ impl CommandString {
         refused_with(Refusal::InvalidPayload)
     }
 
-    pub fn made(self) -> bool
+    pub(crate) fn made(self) -> bool
         ensures { λ r. ⌜ r ≡ madeText self ⌝ }
     {
         let b = self.bytes;
