@@ -31,7 +31,10 @@ enum {
     CRSF_INVALID_PAYLOAD = 2,
     CRSF_BUFFER_OVERFLOW = 3,
     CRSF_FAMILY_LEFT_BEHIND = 4, /* command id 0x03 or 0x13 */
-    CRSF_RECORD_NOT_MADE = 5     /* also: bytes that are the image of no record */
+    CRSF_RECORD_NOT_MADE = 5,    /* also: bytes that are the image of no record */
+    CRSF_NOT_AS_WRITTEN = 6,     /* the payload can be read, but writing what it says gives other bytes */
+    CRSF_NO_SUCH_FIELD = 7,      /* the command has none */
+    CRSF_OUTSIDE_RANGE = 8
 };
 
 /* Command ids. */
@@ -144,12 +147,69 @@ enum {
 
 enum { CRSF_ADDITIONAL_ABSENT = 0, CRSF_ADDITIONAL_EMPTY = 1, CRSF_ADDITIONAL_SELECTION = 2 };
 
+/* FIELDS that can be edited, and what commands have them. Numbers are 0 to 255 where no range is given. */
+enum {
+    CRSF_FIELD_DESTINATION = 1, /* every command */
+    CRSF_FIELD_SOURCE = 2,
+
+    CRSF_FIELD_BUTTONS = 10,
+
+    CRSF_FIELD_FREQUENCY = 20,   /* 5000 to 6000 */
+    CRSF_FIELD_PIT_MODE = 21,    /* 0 or 1 */
+    CRSF_FIELD_PIT_CONTROL = 22, /* 0 to 3 */
+    CRSF_FIELD_PIT_SWITCH = 23,  /* 0 to 15 */
+    CRSF_FIELD_POWER = 24,       /* both commands that set it */
+
+    CRSF_FIELD_TIME = 30,       /* 0 to 65535 */
+    CRSF_FIELD_HUE = 31,        /* 0 to 359; these three of the only or the start colour */
+    CRSF_FIELD_SATURATION = 32, /* 0 to 100 */
+    CRSF_FIELD_VALUE = 33,      /* 0 to 100 */
+    CRSF_FIELD_STOP_HUE = 34,   /* the same three of the stop colour */
+    CRSF_FIELD_STOP_SATURATION = 35,
+    CRSF_FIELD_STOP_VALUE = 36,
+
+    CRSF_FIELD_PORT = 40,     /* of the proposal and of its response */
+    CRSF_FIELD_BAUD = 41,     /* any number */
+    CRSF_FIELD_ACCEPTED = 42, /* 0 or 1 */
+
+    CRSF_FIELD_MODEL = 50, /* of the selection and of its reply */
+
+    CRSF_FIELD_FRAME_TYPE = 60, /* both commands */
+    CRSF_FIELD_INTERVAL = 61,   /* 0 to 65535 */
+
+    CRSF_FIELD_TIMEOUT = 70,         /* every popup */
+    CRSF_FIELD_CLOSE = 71,           /* 0 or 1 */
+    CRSF_FIELD_SELECTION_VALUE = 72, /* popups with a selection */
+    CRSF_FIELD_SELECTION_MIN = 73,
+    CRSF_FIELD_SELECTION_MAX = 74,
+    CRSF_FIELD_SELECTION_DEFAULT = 75,
+    CRSF_FIELD_RETURNED_VALUE = 76,
+    CRSF_FIELD_RESPONSE = 77, /* 0 or 1 */
+
+    CRSF_FIELD_ACK_COMMAND_ID = 80, /* what an ACK answers, not the payload's own id */
+    CRSF_FIELD_ACK_SUB_COMMAND_ID = 81,
+    CRSF_FIELD_ACK_ACTION = 82 /* 0 or 1 */
+};
+
+/* An edit in a list: field, then number, 4 bytes each. */
+enum { CRSF_EDIT_FIELD = 0, CRSF_EDIT_NUMBER = 4, CRSF_EDIT_SIZE = 8 };
+
 /* Reads a payload into a record's image. */
 uint32_t crsf_read(const uint8_t *payload, size_t len, uint8_t *record, size_t record_len);
 
 /* Writes the command of a record's image into the front of a buffer; the count is the payload's length, and the rest of the buffer
  * keeps its bytes. */
 uint32_t crsf_write(const uint8_t *record, size_t record_len, uint8_t *buffer, size_t len);
+
+/* Sets one field of the command that a payload holds, in place: all else that it says stays, and the check is renewed. Refused in
+ * this order: as reading refuses; 6; 7; 8. */
+uint32_t crsf_edit(uint8_t *payload, size_t len, uint32_t field, uint32_t number);
+
+/* Carries out edits one after the other. Each one's number, 0 or a refusal as crsf_edit gives it, goes to its answer byte, and a
+ * refused edit stops none behind it; answer bytes beyond the edits keep theirs. The answer is 0; or, with nothing done, 1 for a
+ * list whose length is no multiple of 8, then 3 for fewer answer bytes than edits. */
+uint32_t crsf_edit_list(uint8_t *payload, size_t len, const uint8_t *edits, size_t edits_len, uint8_t *answers,
+                        size_t answers_len);
 
 /* A text of up to 51 bytes, none 0. */
 uint32_t crsf_text(const uint8_t *bytes, size_t len, uint8_t *text, size_t text_len);

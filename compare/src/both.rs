@@ -85,6 +85,33 @@ impl<'a> Both<'a> {
         });
     }
 
+    /// The payload is lent: all of it has to be the same.
+    pub fn edit(&mut self, payload: &[u8], field: u32, number: u32) {
+        self.left_behind += u64::from(theirs::left_behind(payload));
+        let len = payload.len();
+        let call = |side: &Side, lent: &mut [u8]| {
+            lent.copy_from_slice(payload);
+            (side.edit)(lent, field, number)
+        };
+        self.lending(len, call, || {
+            format!("edit {payload:02X?}: field {field}, {number}")
+        });
+    }
+
+    /// Both the payload and so many answer bytes are lent, the answers behind the payload.
+    pub fn edit_list(&mut self, payload: &[u8], list: &[u8], room: usize) {
+        self.left_behind += u64::from(theirs::left_behind(payload));
+        let len = payload.len();
+        let call = |side: &Side, lent: &mut [u8]| {
+            let (edited, answers) = lent.split_at_mut(len + BEHIND);
+            edited[..len].copy_from_slice(payload);
+            (side.edit_list)(&mut edited[..len], list, answers)
+        };
+        self.lending(len + BEHIND + room, call, || {
+            format!("edit {payload:02X?}: list {list:02X?}, {room} answers")
+        });
+    }
+
     pub fn text(&mut self, bytes: &[u8]) {
         let call = |side: &Side, lent: &mut [u8]| (side.text)(bytes, lent);
         self.lending(fields::TEXT_SIZE, call, || format!("text {bytes:02X?}"));

@@ -1,6 +1,9 @@
 //! What the comparison, the makers of stored answers and the benchmark share: both sides of the C boundary, and input for them.
 pub mod both;
 pub mod cases;
+pub mod changes;
+pub mod edit_cases;
+pub mod edits;
 pub mod every;
 pub mod fields;
 pub mod image;

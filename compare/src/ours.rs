@@ -2,8 +2,17 @@
 use crate::side::Side;
 
 extern "C" {
-    fn crsf_check(bytes: *const u8, len: usize, start: u8) -> u8;
-    fn crsf_ack(
+    pub fn crsf_check(bytes: *const u8, len: usize, start: u8) -> u8;
+    pub fn crsf_edit(payload: *mut u8, len: usize, field: u32, number: u32) -> u32;
+    pub fn crsf_edit_list(
+        payload: *mut u8,
+        len: usize,
+        edits: *const u8,
+        edits_len: usize,
+        answers: *mut u8,
+        answers_len: usize,
+    ) -> u32;
+    pub fn crsf_ack(
         command_id: u8,
         sub_command_id: u8,
         action: u8,
@@ -18,7 +27,7 @@ extern "C" {
 macro_rules! lending {
     ($($name:ident $function:ident;)*) => {
         extern "C" {
-            $(fn $function(given: *const u8, len: usize, lent: *mut u8, lent_len: usize) -> u32;)*
+            $(pub fn $function(given: *const u8, len: usize, lent: *mut u8, lent_len: usize) -> u32;)*
         }
 
         $(fn $name(given: &[u8], lent: &mut [u8]) -> u32 {
@@ -42,6 +51,19 @@ fn check(bytes: &[u8], start: u8) -> u8 {
     unsafe { crsf_check(bytes.as_ptr(), bytes.len(), start) }
 }
 
+fn edit(payload: &mut [u8], field: u32, number: u32) -> u32 {
+    // As above.
+    unsafe { crsf_edit(payload.as_mut_ptr(), payload.len(), field, number) }
+}
+
+fn edit_list(payload: &mut [u8], edits: &[u8], answers: &mut [u8]) -> u32 {
+    let (at, len) = (payload.as_mut_ptr(), payload.len());
+    let (from, size) = (edits.as_ptr(), edits.len());
+    let (to, room) = (answers.as_mut_ptr(), answers.len());
+    // As above.
+    unsafe { crsf_edit_list(at, len, from, size, to, room) }
+}
+
 fn ack([command_id, sub_command_id, action]: [u8; 3], information: &[u8], ack: &mut [u8]) -> u32 {
     let (from, len) = (information.as_ptr(), information.len());
     let (to, room) = (ack.as_mut_ptr(), ack.len());
@@ -53,6 +75,8 @@ pub const OURS: Side = Side {
     read,
     write,
     again,
+    edit,
+    edit_list,
     text,
     ack,
     popup,

@@ -1,10 +1,11 @@
 //! Records for crates/vectors: kind (1), length of the input (2, big-endian), input, length of the answer (2), answer.
+use crate::both::LENT;
 use crate::side::{count, number};
 use crate::theirs::{self, RUST};
-use crate::{fields, image};
+use crate::{edits, fields, image};
 
 /// The kinds, by their number; 0 is none.
-pub const KINDS: [&str; 9] = [
+pub const KINDS: [&str; 11] = [
     "",
     "check",
     "payload check",
@@ -14,6 +15,8 @@ pub const KINDS: [&str; 9] = [
     "ack",
     "popup",
     "inspect",
+    "edit",
+    "edit list",
 ];
 
 const CHECK: u8 = 1;
@@ -24,6 +27,8 @@ const TEXT: u8 = 5;
 const ACK: u8 = 6;
 const POPUP: u8 = 7;
 const INSPECT: u8 = 8;
+const EDIT: u8 = 9;
+const EDIT_LIST: u8 = 10;
 
 #[derive(Default)]
 pub struct Records {
@@ -93,6 +98,27 @@ impl Records {
         if (RUST.popup)(given, &mut popup) == 0 {
             let call = |lent: &mut [u8]| (RUST.popup_fields)(&popup, lent);
             self.image::<{ fields::SIZE }>(INSPECT, &popup, call);
+        }
+    }
+
+    /// As with reading there is no record of a family left behind. The answer is the number and the payload as it is then.
+    pub fn edit(&mut self, payload: &[u8], field: u32, number: u32) {
+        if !theirs::left_behind(payload) {
+            let mut edited = payload.to_vec();
+            let word = (RUST.edit)(&mut edited, field, number);
+            let input = [&edits::list(&[(field, number)]), payload].concat();
+            self.record(EDIT, &input, &[&[word as u8], &edited[..]].concat());
+        }
+    }
+
+    /// The answer is the number, the payload as it is then, and the answer bytes; those that are not written hold A5.
+    pub fn edit_list(&mut self, payload: &[u8], list: &[u8], room: usize) {
+        if !theirs::left_behind(payload) {
+            let (mut edited, mut answers) = (payload.to_vec(), vec![LENT; room]);
+            let word = (RUST.edit_list)(&mut edited, list, &mut answers);
+            let input = [&[room as u8, payload.len() as u8], payload, list].concat();
+            let answer = [&[word as u8], &edited[..], &answers].concat();
+            self.record(EDIT_LIST, &input, &answer);
         }
     }
 }

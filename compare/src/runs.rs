@@ -4,14 +4,14 @@ use crate::image::{KINDS, SCREEN};
 use crate::popups;
 use crate::random::Random;
 use crate::side::Side;
-use crate::{cases, every, fields, image};
+use crate::{cases, edit_cases, every, fields, image};
 
 /// No payload is longer than 60 bytes, no buffer here than this.
 const LONGEST: usize = 70;
 
 pub type Run = for<'a> fn(&'a Side, u64, u64) -> Both<'a>;
 
-pub const ALL: [(&str, Run); 14] = [
+pub const ALL: [(&str, Run); 19] = [
     ("check, up to 2 bytes in full", short_checks),
     ("check, at random", random_checks),
     ("read, every id with up to 2 bytes of body", short_payloads),
@@ -22,6 +22,11 @@ pub const ALL: [(&str, Run); 14] = [
     ("write, every kind into 0 to 70 bytes", buffers),
     ("write, every kind at random", random_records),
     ("read and written again, near every kind", again),
+    ("edit, every field at its edges, every kind", set_edits),
+    ("edit, every number of every range", whole_ranges),
+    ("edit, popups and ACKs of every length", every_length),
+    ("edit, near every kind, at random", random_edits),
+    ("edits in a list, up to 20", edit_lists),
     ("text, at random", texts),
     ("ACK, at random", acks),
     ("popups of every length, fields, written", popups),
@@ -137,6 +142,58 @@ pub fn again(side: &Side, rounds: u64, seed: u64) -> Both<'_> {
         let kind = random.chosen(&KINDS);
         let payload = cases::near_payload(random, kind);
         both.again(&payload, random.below(LONGEST + 1));
+    })
+}
+
+/// Every field with every number around its range, and with any, on each payload.
+pub fn set_edits(side: &Side, _: u64, seed: u64) -> Both<'_> {
+    run(side, |both| {
+        let mut any = Random(!seed);
+        edit_cases::payloads(&mut Random(seed), |payload| {
+            for field in edit_cases::fields() {
+                for number in edit_cases::edges(field) {
+                    both.edit(payload, field, number);
+                }
+                both.edit(payload, field, any.number() as u32);
+            }
+        })
+    })
+}
+
+pub fn whole_ranges(side: &Side, _: u64, seed: u64) -> Both<'_> {
+    run(side, |both| {
+        edit_cases::whole_ranges(&mut Random(seed), |payload, field, number| {
+            both.edit(payload, field, number)
+        })
+    })
+}
+
+pub fn every_length(side: &Side, _: u64, seed: u64) -> Both<'_> {
+    run(side, |both| {
+        edit_cases::every_length(&mut Random(seed), |payload, field, number| {
+            both.edit(payload, field, number)
+        })
+    })
+}
+
+pub fn random_edits(side: &Side, rounds: u64, seed: u64) -> Both<'_> {
+    at_random(side, rounds, seed, |both, random| {
+        let payload = edit_cases::payload(random);
+        let (field, number) = edit_cases::edit(random, edit_cases::id_of(&payload));
+        both.edit(&payload, field, number);
+    })
+}
+
+/// Short lists in full, then others at random.
+pub fn edit_lists(side: &Side, rounds: u64, seed: u64) -> Both<'_> {
+    run(side, |both| {
+        edit_cases::short_lists(|payload, list, room| both.edit_list(payload, list, room));
+        let mut random = Random(seed);
+        for _ in 0..rounds / 4 {
+            let payload = edit_cases::payload(&mut random);
+            let (list, room) = edit_cases::list(&mut random, edit_cases::id_of(&payload));
+            both.edit_list(&payload, &list, room);
+        }
     })
 }
 

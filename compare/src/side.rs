@@ -13,6 +13,10 @@ pub struct Side {
     pub write: Lending,
     /// Payload, buffer: read, and written again.
     pub again: Lending,
+    /// Payload, field, number: edited in place.
+    pub edit: fn(&mut [u8], u32, u32) -> u32,
+    /// Payload, edits, answers: edited in place.
+    pub edit_list: fn(&mut [u8], &[u8], &mut [u8]) -> u32,
     /// Bytes, text image.
     pub text: Lending,
     /// Command id, sub id and action; information, ACK image.

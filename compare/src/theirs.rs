@@ -1,17 +1,22 @@
 //! The Rust, put behind the same boundary. What it does not have is document 01's: 4 for the families that are left behind, 5 for what
-//! its types cannot hold, a lent slice that keeps its bytes where the answer is a refusal.
+//! its types cannot hold, a lent slice that keeps its bytes where the answer is a refusal, and edits, put together from its reading, its
+//! types and its writing.
 use uf_crsf::packets::{
     CommandAck, CommandString, CrsfPacket, DirectCommands, ScreenPopup, COMMAND_CRC_ALGO,
 };
 use uf_crsf::CrsfParsingError;
 
+use crate::changes::Change;
+use crate::edits;
 use crate::fields;
 use crate::image;
 use crate::side::Side;
 
+const LENGTH: u32 = 1;
 const OVERFLOW: u32 = 3;
 const LEFT_BEHIND: u32 = 4;
 const NOT_MADE: u32 = 5;
+const NOT_AS_WRITTEN: u32 = 6;
 
 pub const ACK_SIZE: usize = 56;
 
@@ -118,6 +123,56 @@ pub fn plain_again(payload: &[u8], buffer: &mut [u8]) -> u32 {
     word(DirectCommands::from_bytes(payload).and_then(|command| command.to_bytes(buffer)))
 }
 
+fn written(command: &DirectCommands) -> Vec<u8> {
+    let mut buffer = [0; 60];
+    let count = command.to_bytes(&mut buffer);
+    buffer[..count.expect("a command that was read")].to_vec()
+}
+
+/// The command that was read, with another number in that field, written afresh.
+fn edited(payload: &[u8], field: u32, number: u32) -> Result<Vec<u8>, u32> {
+    let mut command = from_bytes(payload)?;
+    if written(&command) != payload {
+        return Err(NOT_AS_WRITTEN);
+    }
+    edits::set(&mut command, field, number)?;
+    Ok(written(&command))
+}
+
+/// A field changed as a caller of the Rust would, into a buffer, with no look at what is written: what the benchmark counts.
+pub fn plain_edit(payload: &[u8], change: Change, number: u32, buffer: &mut [u8]) -> u32 {
+    let edited = DirectCommands::from_bytes(payload).and_then(|mut command| {
+        change(&mut command, number);
+        command.to_bytes(buffer)
+    });
+    word(edited)
+}
+
+fn edit(payload: &mut [u8], field: u32, number: u32) -> u32 {
+    match edited(payload, field, number) {
+        Ok(edited) => {
+            payload.copy_from_slice(&edited);
+            0
+        }
+        Err(number) => number,
+    }
+}
+
+/// Each edit by itself.
+fn edit_list(payload: &mut [u8], list: &[u8], answers: &mut [u8]) -> u32 {
+    if list.len() % edits::SIZE != 0 {
+        return LENGTH;
+    }
+    if answers.len() < list.len() / edits::SIZE {
+        return OVERFLOW;
+    }
+    for (one, answer) in list.chunks_exact(edits::SIZE).zip(answers) {
+        let (field, number) = edits::one_of_list(one);
+        *answer = edit(payload, field, number) as u8;
+    }
+    0
+}
+
 fn text(bytes: &[u8], text: &mut [u8]) -> u32 {
     let image = CommandString::new(bytes).map(|made| {
         let mut image = [0; fields::TEXT_SIZE];
@@ -158,6 +213,8 @@ pub const RUST: Side = Side {
     read,
     write,
     again,
+    edit,
+    edit_list,
     text,
     ack,
     popup,

@@ -1,14 +1,9 @@
 //! Any slice has an answer: none, a null pointer, too short a one for an image, and one far longer than a payload.
 use compare::both::LENT;
-use compare::ours::OURS;
+use compare::edits;
+use compare::ours::{crsf_check, crsf_edit, crsf_edit_list, crsf_read, crsf_write, OURS};
 use compare::side::Side;
 use compare::theirs::RUST;
-
-extern "C" {
-    fn crsf_check(bytes: *const u8, len: usize, start: u8) -> u8;
-    fn crsf_read(payload: *const u8, len: usize, record: *mut u8, record_len: usize) -> u32;
-    fn crsf_write(record: *const u8, record_len: usize, buffer: *mut u8, len: usize) -> u32;
-}
 
 #[test]
 fn no_bytes_leave_the_start() {
@@ -32,6 +27,15 @@ fn null_pointers_with_length_0_are_slices() {
     let mut record = [LENT; 70];
     assert_eq!(unsafe { crsf_read(none, 0, record.as_mut_ptr(), 70) }, 1);
     assert_eq!(record, [LENT; 70]);
+    assert_eq!(unsafe { crsf_edit(nothing, 0, 1, 0) }, 1);
+    assert_eq!(
+        unsafe { crsf_edit_list(nothing, 0, none, 0, nothing, 0) },
+        0
+    );
+    let (edit, mut answers) = ([0; 8], [LENT; 2]);
+    let (from, to) = (edit.as_ptr(), answers.as_mut_ptr());
+    assert_eq!(unsafe { crsf_edit_list(nothing, 0, from, 8, to, 2) }, 0);
+    assert_eq!(answers, [1, LENT]);
 }
 
 #[test]
@@ -94,4 +98,23 @@ fn an_image_needs_its_bytes_and_no_more() {
             assert!(ours[size..].iter().all(|byte| *byte == LENT));
         }
     }
+}
+
+#[test]
+fn a_megabyte_of_payload_is_not_edited_and_a_megabyte_of_edits_is_carried_out() {
+    let mut payload = vec![0x01; 1 << 20];
+    assert_eq!((OURS.edit)(&mut payload, 1, 0), 1);
+    assert!(payload.iter().all(|byte| *byte == 0x01));
+
+    const EDITS: u32 = 1 << 17;
+    let list = edits::list(&(0..EDITS).map(|n| (20, n)).collect::<Vec<_>>());
+    let mut payload = [0xC8, 0xEA, 0x08, 0x02, 0x16, 0xA8, 0x0E];
+    let mut answers = vec![LENT; EDITS as usize + 1];
+    assert_eq!((OURS.edit_list)(&mut payload, &list, &mut answers), 0);
+    assert_eq!(payload[4..6], 6000u16.to_be_bytes());
+    for (n, answer) in answers[..EDITS as usize].iter().enumerate() {
+        let right = if (5000..=6000).contains(&n) { 0 } else { 8 };
+        assert_eq!(*answer, right, "{n}");
+    }
+    assert_eq!(answers[EDITS as usize], LENT);
 }

@@ -5,7 +5,7 @@ use compare::image::KINDS;
 use compare::random::Random;
 use compare::side::number;
 use compare::theirs::RUST;
-use compare::{cases, fields, image};
+use compare::{cases, edit_cases, edits, fields, image};
 
 const ROUNDS: usize = 3000;
 
@@ -69,6 +69,74 @@ fn constructors_accept_and_refuse() {
     assert!(acks.is_superset(&BTreeSet::from([(52, 0), (52, 2), (53, 1)])));
     let lengths = [(53, 0), (54, 0), (55, 0), (53, 1), (53, 2)];
     assert!(popups.is_superset(&BTreeSet::from(lengths)), "{popups:?}");
+}
+
+/// Of every field: accepted at both ends of its range, and refused by each number that comes after reading.
+#[test]
+fn every_field_is_edited_and_refused() {
+    let mut reached = BTreeSet::new();
+    edit_cases::payloads(&mut Random(1), |payload| {
+        for (field, least, greatest) in edits::FIELDS {
+            for number in edit_cases::edges(field) {
+                let mut edited = payload.to_vec();
+                let word = (RUST.edit)(&mut edited, field, number);
+                let end = number == least || number == greatest;
+                reached.insert((field, word, word == 0 && end && edited != payload));
+            }
+        }
+    });
+    for (field, _, _) in edits::FIELDS {
+        for word in [1, 2, 4, 6, 7, 8] {
+            let there = reached.contains(&(field, word, false));
+            // every command has an address, and no number is too large for a baud rate
+            let never = matches!((field, word), (1 | 2, 7) | (41, 8));
+            assert_eq!(there, !never, "field {field}, {word}");
+        }
+        assert!(reached.contains(&(field, 0, true)), "field {field}");
+    }
+}
+
+/// Every field is accepted, and no other.
+#[test]
+fn edits_at_random_have_every_answer() {
+    let mut random = Random(1);
+    let (mut accepted, mut answers) = (BTreeSet::new(), BTreeSet::new());
+    for _ in 0..20 * ROUNDS {
+        let mut payload = edit_cases::payload(&mut random);
+        let (field, number) = edit_cases::edit(&mut random, edit_cases::id_of(&payload));
+        let word = (RUST.edit)(&mut payload, field, number);
+        answers.insert(word);
+        if word == 0 {
+            accepted.insert(field);
+        }
+    }
+    assert_eq!(answers, BTreeSet::from([0, 1, 2, 4, 6, 7, 8]));
+    assert_eq!(accepted, edits::FIELDS.iter().map(|row| row.0).collect());
+}
+
+#[test]
+fn lists_have_every_length_and_answer() {
+    let mut random = Random(1);
+    let (mut lengths, mut words, mut numbers) = (BTreeSet::new(), BTreeSet::new(), BTreeSet::new());
+    let (mut both, mut beyond) = (0, 0);
+    for _ in 0..ROUNDS {
+        let mut payload = edit_cases::payload(&mut random);
+        let (list, room) = edit_cases::list(&mut random, edit_cases::id_of(&payload));
+        let mut answers = vec![0xA5; room];
+        let word = (RUST.edit_list)(&mut payload, &list, &mut answers);
+        words.insert(word);
+        if word == 0 {
+            let given = &answers[..list.len() / 8];
+            lengths.insert(given.len());
+            numbers.extend(given.iter().copied());
+            both += u32::from(given.contains(&0) && given.contains(&8));
+            beyond += u32::from(given.len() < room);
+        }
+    }
+    assert_eq!(lengths, (0..=20).collect());
+    assert_eq!(words, BTreeSet::from([0, 1, 3]));
+    assert!(numbers.is_superset(&BTreeSet::from([0, 1, 2, 6, 7, 8])));
+    assert!(both > 100 && beyond > 100);
 }
 
 /// The image of what an image holds is the image: no value is left out or stands for another.

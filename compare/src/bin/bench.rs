@@ -1,11 +1,15 @@
 //! bench WHAT SIDE COUNT: calls one side COUNT times, for compare/bench to count its instructions.
 //! bench WHAT SIDE: prints the nanoseconds of one call.
+//! bench fields: prints the fields that are edited.
 //!
-//! SIDE is ours or rust. WHAT is check, or again:FAMILY, read:FAMILY, write:FAMILY.
+//! SIDE is ours or rust. WHAT is check, or again:FAMILY, read:FAMILY, write:FAMILY, edit:FIELD, list:FIELD (ours alone; COUNT is that of
+//! the edits), or edit or list, which take all fields by turns.
 use std::hint::black_box;
 use std::time::Instant;
 
 use compare::cases::payload;
+use compare::changes::{self, Row, ROWS};
+use compare::edits;
 use compare::every::ADDRESSES;
 use compare::image::{self, FAMILIES};
 use compare::ours::OURS;
@@ -15,21 +19,18 @@ use uf_crsf::packets::{CrsfPacket, DirectCommands};
 /// A family's name and a body of it, in the order of FAMILIES.
 const BODIES: [(&str, &[u8]); 9] = [
     ("fc", &[0x01]),
-    ("osd", &[0x01, 0x81]),
-    ("vtx", &[0x02, 0x16, 0xA8]),
-    (
-        "led",
-        &[0x03, 0x01, 0xF4, 0xB3, 0xE4, 0x64, 0x00, 0x32, 0x32],
-    ),
-    ("general", &[0x70, 0x01, 0x00, 0x06, 0x1A, 0x80]),
-    ("crossfire", &[0x05, 0x07]),
-    ("flow_control", &[0x01, 0x14, 0x01, 0xF4]),
-    (
-        "screen",
-        b"\x01Bridge 12\0Span open\0\x1E\x01Light\0\x05\x00\x0A\x05lx\0Yes;No\0",
-    ),
-    ("ack", b"\x08\x02\x01frequency set\0"),
+    ("osd", changes::BUTTONS),
+    ("vtx", changes::FREQUENCY),
+    ("led", changes::PULSE),
+    ("general", changes::PROPOSAL),
+    ("crossfire", changes::MODEL),
+    ("flow_control", changes::SUBSCRIBE),
+    ("screen", changes::POPUP),
+    ("ack", changes::ANSWER),
 ];
+
+/// How many edits a list has.
+const IN_LIST: usize = 8;
 
 fn repeated(count: u64, mut call: impl FnMut()) {
     for _ in 0..count {
@@ -98,16 +99,87 @@ fn write(payload: &[u8], ours: bool, times: u64) {
     assert_eq!(&out[..payload.len()], payload, "was not written");
 }
 
+/// The payload in which a field is edited, and how it is left by an odd and by an even number of edits.
+fn edited((field, id, body, numbers, _): Row) -> (Vec<u8>, [Vec<u8>; 2]) {
+    let payload = payload(ADDRESSES, id, body);
+    let left = numbers.map(|number| {
+        let mut edited = payload.clone();
+        assert_eq!((RUST.edit)(&mut edited, field, number), 0);
+        edited
+    });
+    (payload, left)
+}
+
+/// A field set to its two numbers by turns; the Rust writes into a buffer.
+fn edit(row: Row, ours: bool, times: u64) {
+    let (field, _, _, numbers, change) = row;
+    let (mut payload, left) = edited(row);
+    let mut turn = 0;
+    if ours {
+        repeated(times, || {
+            let number = black_box(numbers[turn]);
+            black_box((OURS.edit)(black_box(&mut payload), field, number));
+            turn ^= 1;
+        });
+        assert_eq!(payload, left[1], "was not edited");
+    } else {
+        let mut out = [0; 60];
+        repeated(times, || {
+            let number = black_box(numbers[turn]);
+            let call = theirs::plain_edit;
+            black_box(call(
+                black_box(&payload),
+                change,
+                number,
+                black_box(&mut out),
+            ));
+            turn ^= 1;
+        });
+        assert_eq!(out[..payload.len()], left[1], "was not edited");
+    }
+}
+
+/// The same edits in lists, ours alone. What counts is the edits.
+fn list(row: Row, times: u64) {
+    let (field, _, _, numbers, _) = row;
+    let (mut payload, left) = edited(row);
+    let edits: [(u32, u32); IN_LIST] = std::array::from_fn(|i| (field, numbers[i % 2]));
+    let edits = edits::list(&edits);
+    let mut answers = [0xFF; IN_LIST];
+    repeated(times / IN_LIST as u64, || {
+        let edits = black_box(&edits);
+        black_box((OURS.edit_list)(
+            black_box(&mut payload),
+            edits,
+            black_box(&mut answers),
+        ));
+    });
+    assert_eq!(
+        (payload, answers),
+        (left[1].clone(), [0; IN_LIST]),
+        "was not edited"
+    );
+}
+
+/// The rows of a field, or of all.
+fn rows(field: &str) -> impl Iterator<Item = Row> + '_ {
+    ROWS.into_iter()
+        .filter(move |row| field.is_empty() || row.0.to_string() == field)
+}
+
 fn main() {
     let words: Vec<String> = std::env::args().skip(1).collect();
-    let (what, family) = words[0].split_once(':').unwrap_or((&words[0], ""));
+    if words[0] == "fields" {
+        return ROWS.iter().for_each(|row| println!("{}", row.0));
+    }
+    let (what, which) = words[0].split_once(':').unwrap_or((&words[0], ""));
     let ours = match words[1].as_str() {
         "ours" => true,
         "rust" => false,
         _ => panic!("ours or rust"),
     };
     let of_family = || {
-        let place = BODIES.iter().position(|(name, _)| *name == family);
+        let place = BODIES.iter().position(|(name, _)| *name == which);
         let place = place.expect("a family");
         payload(ADDRESSES, FAMILIES[place], BODIES[place].1)
     };
@@ -116,15 +188,21 @@ fn main() {
         "again" => again(&of_family(), ours, count),
         "read" => read(&of_family(), ours, count),
         "write" => write(&of_family(), ours, count),
-        _ => panic!("check, again, read or write"),
+        "edit" => rows(which).for_each(|row| edit(row, ours, count)),
+        "list" => rows(which).for_each(|row| list(row, count)),
+        _ => panic!("check, again, read, write, edit or list"),
     };
     match words.get(2) {
         Some(count) => work(count.parse().expect("a count")),
         None => {
             const CALLS: u64 = 1_000_000;
-            work(CALLS / 10);
+            let calls = match words[0].as_str() {
+                "edit" | "list" => CALLS / ROWS.len() as u64 / 16 * 16,
+                _ => CALLS,
+            };
+            work(calls / 10);
             let began = Instant::now();
-            work(CALLS);
+            work(calls);
             println!("{:.1}", began.elapsed().as_nanos() as f64 / CALLS as f64);
         }
     }

@@ -6,7 +6,8 @@ use compare::every::ADDRESSES;
 use compare::image::{FAMILIES, KINDS};
 use compare::random::Random;
 use compare::records::{self, Records};
-use compare::stored;
+use compare::theirs::RUST;
+use compare::{edit_cases, edits, stored};
 
 const SEED: u64 = 0x0132;
 
@@ -101,6 +102,50 @@ fn making(list: &mut Records, random: &mut Random) {
     }
 }
 
+/// A payload of a kind, as written, whose command has this field; none where the kind does not have it.
+fn having(random: &mut Random, kind: (u8, u8, usize), field: u32) -> Option<Vec<u8>> {
+    let (least, _) = edits::range(field)?;
+    let mut some = (0..20).map(|_| edit_cases::as_written(random, kind));
+    some.find(|payload| (RUST.edit)(&mut payload.clone(), field, least) == 0)
+}
+
+/// Every field on a command that has none but the addresses. Every field of every kind at the edges of its range and beyond them, and of
+/// the family's others one number; near a payload of every kind some edit; a list for every kind, and lists whose length or number of
+/// answers is not right.
+fn editing(list: &mut Records, random: &mut Random) {
+    for (field, least, _) in edits::FIELDS {
+        list.edit(&payload(ADDRESSES, 0x01, &[0x01]), field, least);
+    }
+    for kind in KINDS {
+        for field in edit_cases::of_family(kind.0) {
+            let (least, greatest) = edits::range(*field).expect("a field");
+            let Some(payload) = having(random, kind, *field) else {
+                let other = edit_cases::as_written(random, kind);
+                list.edit(&other, *field, least);
+                continue;
+            };
+            let beyond = [least.wrapping_sub(1), greatest.wrapping_add(1)];
+            for number in [least, greatest, beyond[0], beyond[1]] {
+                list.edit(&payload, *field, number);
+            }
+        }
+        for payload in edit_cases::near(&edit_cases::as_written(random, kind)) {
+            let (field, number) = edit_cases::edit(random, kind.0);
+            if payload.len() <= 64 {
+                list.edit(&payload, field, number);
+            }
+        }
+        let payload = edit_cases::as_written(random, kind);
+        let (edits, room) = edit_cases::list(random, kind.0);
+        list.edit_list(&payload, &edits, room);
+    }
+    edit_cases::short_lists(|payload, edits, room| {
+        if edits.len() % 8 < 2 && room.abs_diff(edits.len() / 8) < 2 {
+            list.edit_list(payload, edits, room);
+        }
+    });
+}
+
 fn main() -> ExitCode {
     let mut list = Records::default();
     let mut random = Random(SEED);
@@ -109,6 +154,7 @@ fn main() -> ExitCode {
     reading(&mut list, &mut random);
     writing(&mut list, &mut random);
     making(&mut list, &mut random);
+    editing(&mut list, &mut random);
     let counts: Vec<String> = (1..records::KINDS.len())
         .map(|kind| format!("{} of {}", list.count[kind], records::KINDS[kind]))
         .collect();

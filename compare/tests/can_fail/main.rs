@@ -1,6 +1,7 @@
 //! The comparison tells a wrong side from a right one: each of these is the Rust itself but for one answer, and the run named with it
 //! sees that.
 mod checks;
+mod editors;
 mod makers;
 mod readers;
 mod writers;
@@ -64,5 +65,19 @@ fn a_wrong_writer_is_seen() {
 fn a_wrong_constructor_or_inspection_is_seen() {
     for (what, run, wrong) in makers::MAKERS {
         is_seen(what, *run, wrong);
+    }
+}
+
+#[test]
+fn a_wrong_edit_is_seen() {
+    for &(what, run, edit) in editors::EDITORS {
+        is_seen(what, run, &Side { edit, ..RUST });
+    }
+}
+
+#[test]
+fn a_wrong_list_of_edits_is_seen() {
+    for &(what, edit_list) in editors::LISTS {
+        is_seen(what, runs::edit_lists, &Side { edit_list, ..RUST });
     }
 }

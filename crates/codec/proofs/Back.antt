@@ -109,7 +109,7 @@ pick-sound : (t : Bool) (is js : List Item) → soundItems is ≡ true → sound
 pick-sound true is js p q = p
 pick-sound false is js p q = q
 
-sound-of : (rs : List Row) (sub : ℕ) → soundRows rs ≡ true → soundItems (itemsOf rs sub) ≡ true
+pub sound-of : (rs : List Row) (sub : ℕ) → soundRows rs ≡ true → soundItems (itemsOf rs sub) ≡ true
 sound-of [] sub h = refl
 sound-of (row k is ∷ rs) sub h =
     let t = both (ltb k 256) (pick (soundItems is) (soundRows rs) false) h in

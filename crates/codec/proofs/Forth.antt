@@ -1,12 +1,13 @@
 -- What was read is what would be written: for items that use all their bits, over bytes. Assumes nothing.
-use Prim.Native.Nat.{ℕ, zero, suc, _+_, _*_, _^_, _<_, _≤_}
+use Prim.Native.Nat.{ℕ, zero, suc, _+_, _*_, _/_, _^_, _<_, _≤_}
 use mathlib.Core.Bool.{Bool, true, false}
 use mathlib.Core.List.{List, [], _∷_, _++_}
 use mathlib.Core.Path.{_≡_, refl, ap, sym}
 use native.Mathlib.Omega.{arith}
-use native.Mathlib.Nat.{mod-eq-of-lt}
+use native.Mathlib.Nat.{mod-lt, mod-eq-of-lt}
 use native.Mathlib.Numerals.{add-one}
 use lib.ListN.{length, take, drop, replicate, length-append}
+use lib.Pow.{pow-pos}
 use lib.Seq.{length-take-le, drop-drop, take-add}
 use lib.Dec.{eqb}
 use borrow.Author.Tests.{eqb-true}
@@ -30,6 +31,11 @@ pub bytes-drop : (n : ℕ) (s : List ℕ) → Bytes s → Bytes (drop n s)
 bytes-drop zero s h = h
 bytes-drop (suc n) [] h = tt
 bytes-drop (suc n) (b ∷ s) h = bytes-drop n s (h .1)
+
+-- the bytes of a number are bytes
+pub digit-bytes : (w n : ℕ) → Bytes (bytesOf w n)
+digit-bytes zero n = tt
+digit-bytes (suc w) n = (mod-lt (n / 2 ^ sum (replicate w 8)) (pow-pos 8), digit-bytes w n)
 
 -- bytes → number → bytes
 pub bytes-number : (s : List ℕ) (w : ℕ) → length s ≡ w → Bytes s → (bytesOf w (numberOf s) ≡ s) × (numberOf s < 2 ^ (8 * w))

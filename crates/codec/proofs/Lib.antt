@@ -1,11 +1,13 @@
 pub mod Digits
 pub mod Back
+pub mod Same
 pub mod Loops
 pub mod Items
 pub mod Texts
 pub mod Puts
 pub mod Stops
 pub mod Patch
+pub mod Narrow
 pub mod Forth
 pub mod Joins
 pub mod Writes

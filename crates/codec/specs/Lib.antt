@@ -1,4 +1,5 @@
 pub mod Pick
+pub mod Same
 pub mod Digits
 pub mod Sheet
 pub mod Reading

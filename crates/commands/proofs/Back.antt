@@ -49,6 +49,7 @@ use Rattle.families.proofs.ScreenBack.{start-back, return-back, return-is}
 use Rattle.commands.specs.Command.{Kept, kept, commandOf, storedIn, madeBeside, made}
 use Rattle.commands.specs.Reading.{readPlain, keptAck, readFamily, readCommand}
 use Rattle.commands.specs.Writing.{bodyOf, stopBody, payloadOf, roomOf, stopWriting}
+use Rattle.commands.specs.Writing.Text.{stop-is}
 use Rattle.commands.specs.declared.DirectCommands.{DirectCommands}
 use Rattle.commands.proofs.Written.{body-fits}
 use Rattle.commands.proofs.Laid.{read-payload}
@@ -157,7 +158,7 @@ room-small n = by (leb n 60) refl
     by false e = omega arith
 
 pub let-through : (c : DirectCommands) (n : ℕ) → stopWriting c n ≡ 0 → (made c ≡ true) × ((4 ≤ n) × (stopBody (c .payload) (storedIn c) (roomOf n) ≡ 0))
-let-through c n h = by (made c) (ltb n 4) refl h
+let-through c n h = by (made c) (ltb n 4) refl (sym (stop-is c n) ∙ h)
   where
     by : (a b : Bool) → ltb n 4 ≡ b → pick a (pick b 3 (stopBody (c .payload) (storedIn c) (roomOf n))) 5 ≡ 0
         → (a ≡ true) × ((4 ≤ n) × (stopBody (c .payload) (storedIn c) (roomOf n) ≡ 0))

@@ -3,7 +3,7 @@
 use Prim.Native.Nat.{ℕ}
 use mathlib.Core.Bool.{true, false}
 use mathlib.Core.List.{List, [], _∷_, _++_, map}
-use mathlib.Core.Path.{_≡_, refl}
+use mathlib.Core.Path.{_≡_, refl, ap, _∙_}
 use lib.ListN.{length, replicate}
 use Rattle.crc.specs.Polynomial.{remainder}
 use Rattle.crc.specs.Check.{checkOf, payloadCheck}
@@ -24,8 +24,10 @@ use Rattle.families.specs.declared.screen.ScreenAdditionalData.the-variants.{Ab
 use Rattle.families.specs.declared.payload.CommandPayload.{CommandPayload}
 use Rattle.families.specs.declared.payload.CommandPayload.the-variants.{Fc, Vtx, Led}
 use Rattle.commands.specs.Command.{kept, commandOf}
-use Rattle.commands.specs.Reading.{readCommand}
-use Rattle.commands.specs.Writing.{payloadOf, stopWriting}
+use Rattle.commands.specs.Reading.{readingOrder, readCommand}
+use Rattle.commands.specs.Reading.Text.{read-is}
+use Rattle.commands.specs.Writing.{layoutOf, writingOrder, payloadOf, stopWriting}
+use Rattle.commands.specs.Writing.Text.{payload-is, stop-is}
 use Rattle.commands.specs.declared.DirectCommands.{DirectCommands}
 
 -- a row of the table: what is given, and last the answer
@@ -104,8 +106,9 @@ wide k = record {
   «possible_values» = textOf [];
 }
 
-abbrev pub examples : List Example
-examples =
+-- the table, in two: what 01 says of edits stands between
+abbrev pub earlier : List Example
+earlier =
     -- M1: "C8 EA 01 01 FE is disarm."
     reads m1 (got disarm)
     -- M2: "C8 EA 01 01 00 FE reads as M1 and is written as M1"
@@ -113,8 +116,12 @@ examples =
     ∷ rewrites (0xC8 ∷ 0xEA ∷ 0x01 ∷ 0x01 ∷ 0x00 ∷ 0xFE ∷ []) (got m1)
     -- M3: "C8 EA 08 02 16 A8 0E is 5800 MHz"
     ∷ reads m3 (got (frequency 5800))
+    ∷ []
+
+abbrev pub later : List Example
+later =
     -- M5: "C8 EA 01 22 is 1; C8 EA 02 56 is 2; C8 EA 03 EC is 4."
-    ∷ reads (0xC8 ∷ 0xEA ∷ 0x01 ∷ 0x22 ∷ []) (refused 1 0)
+    reads (0xC8 ∷ 0xEA ∷ 0x01 ∷ 0x22 ∷ []) (refused 1 0)
     ∷ reads (0xC8 ∷ 0xEA ∷ 0x02 ∷ 0x56 ∷ []) (refused 2 0)
     ∷ reads (0xC8 ∷ 0xEA ∷ 0x03 ∷ 0xEC ∷ []) (refused 4 0)
     -- M6: "Colour 359/100/100 is B3 E4 64; colour B4 00 00 is 2."
@@ -139,6 +146,73 @@ examples =
     ∷ counts (colour 360 0 0) 4 (refused 3 0)
     ∷ []
 
-pub marked : map worked examples ≡ examples
+abbrev pub examples : List Example
+examples = earlier ++ later
+
+-- ---- the same of the texts: these compute
+abbrev countIn : DirectCommands → ℕ → Answer ℕ
+countIn c n = counted (writingOrder c n) (length (layoutOf c))
+
+abbrev writtenIn : DirectCommands → ℕ → Answer (List ℕ)
+writtenIn c n = andThen (countIn c n) (λ k. got (layoutOf c))
+
+abbrev computed : Example → Example
+computed (reads p a) = reads p (readingOrder p)
+computed (writes c n a) = writes c n (writtenIn c n)
+computed (counts c n a) = counts c n (countIn c n)
+computed (rewrites p a) = rewrites p (andThen (readingOrder p) (λ c. writtenIn c 60))
+computed (texts v a) = texts v (newText v)
+computed (acks k t a) = acks k t (newAck k t)
+computed (popups f a) = popups f (construct f)
+
+count-is : (c : DirectCommands) (n : ℕ) → count c n ≡ countIn c n
+count-is c n = rw (stop-is c n, payload-is c)
+
+written-is : (c : DirectCommands) (n : ℕ) → written c n ≡ writtenIn c n
+written-is c n = rw (stop-is c n, payload-is c)
+
+rewritten-is : (a : Answer DirectCommands) → andThen a (λ c. written c 60) ≡ andThen a (λ c. writtenIn c 60)
+rewritten-is (got c) = written-is c 60
+rewritten-is (refused n p) = refl
+
+worked-is : (x : Example) → worked x ≡ computed x
+worked-is (reads p a) = ap (λ (b : Answer DirectCommands). reads p b) (read-is p)
+worked-is (writes c n a) = ap (λ (b : Answer (List ℕ)). writes c n b) (written-is c n)
+worked-is (counts c n a) = ap (λ (b : Answer ℕ). counts c n b) (count-is c n)
+worked-is (rewrites p a) =
+    ap (λ (b : Answer DirectCommands). rewrites p (andThen b (λ c. written c 60))) (read-is p)
+    ∙ ap (λ (b : Answer (List ℕ)). rewrites p b) (rewritten-is (readingOrder p))
+worked-is (texts v a) = refl
+worked-is (acks k t a) = refl
+worked-is (popups f a) = refl
+
+all-worked : (l : List Example) → map worked l ≡ map computed l
+all-worked [] = refl
+all-worked (x ∷ l) = rw (worked-is x, all-worked l)
+
+earlier-computed : map computed earlier ≡ earlier
 unfolding readItem payloadCheck checkOf remainder
-marked = refl
+earlier-computed = refl
+
+later-computed : map computed later ≡ later
+unfolding readItem payloadCheck checkOf remainder
+later-computed = refl
+
+-- ---- THE statements
+pub earlier-marked : map worked earlier ≡ earlier
+earlier-marked = all-worked earlier ∙ earlier-computed
+
+pub later-marked : map worked later ≡ later
+later-marked = all-worked later ∙ later-computed
+
+pub marked : map worked examples ≡ examples
+marked = ap (λ (l : List Example). l ++ map worked later) earlier-marked ∙ ap (λ (l : List Example). earlier ++ l) later-marked
+
+-- M1 and M3 read, as laws of their own
+pub m1-read : readCommand m1 ≡ got disarm
+unfolding readItem payloadCheck checkOf remainder
+m1-read = read-is m1
+
+pub m3-read : readCommand m3 ≡ got (frequency 5800)
+unfolding readItem payloadCheck checkOf remainder
+m3-read = read-is m3

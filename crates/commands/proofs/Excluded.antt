@@ -2,16 +2,15 @@
 -- input, by 01's M1 and M3. `Post` is the contract as the check reads it from the source, and no copy of it. Assumes nothing.
 use Prim.Native.Nat.{ℕ}
 use mathlib.Core.List.{List, [], _∷_, _++_}
-use mathlib.Core.Path.{_≡_, refl, ap, sym, _∙_}
+use mathlib.Core.Path.{_≡_, ap, sym, subst, _∙_}
 use native.Mathlib.Omega.{arith}
 use lib.ListN.{length, replicate, getD}
 use lib.Seq.{sets}
 use contract.Lifetimes.{Lfts}
 use denote.Ref.{RefT}
 use Rattle.crc.specs.Polynomial.{remainder}
-use Rattle.crc.specs.Check.{checkOf, payloadCheck}
-use Rattle.codec.specs.Sheet.{got}
-use Rattle.codec.specs.Reading.{readItem}
+use Rattle.crc.specs.Check.{checkOf}
+use Rattle.codec.specs.Sheet.{Answer, got}
 use Rattle.codec.specs.Refusals.{outcomeNumber}
 use Rattle.codec.specs.Told.{toldWritten, Writes}
 use Rattle.codec.specs.declared.refusal.Outcome.the-variants.{Accepted, Refused}
@@ -21,11 +20,12 @@ use Rattle.codec.specs.declared.writer.Written.the-variants.{Count}
 use Rattle.codec.proofs.Outcomes.{outcome-one}
 use Rattle.codec.proofs.Writes.{refusal-some, writtenTold, written-told, free}
 use Rattle.families.specs.Payload.{familyId}
-use Rattle.commands.specs.Reading.{CommandIs}
-use Rattle.commands.specs.Writing.{payloadOf, stopWriting}
+use Rattle.commands.specs.Reading.{readCommand, CommandIs}
+use Rattle.commands.specs.Writing.{layoutOf, writingOrder, payloadOf, stopWriting}
+use Rattle.commands.specs.Writing.Text.{payload-is, stop-is}
 use Rattle.commands.specs.declared.DirectCommands.{DirectCommands}
 use Rattle.commands.specs.declared.CommandAnswer.{CommandAnswer}
-use Rattle.commands.proofs.Examples.{disarm, frequency, m1, m3}
+use Rattle.commands.proofs.Examples.{disarm, frequency, m1, m3, m1-read, m3-read}
 use Rattle.commands.proofs.DirectCommands.from_bytes.Reads as read
 use Rattle.commands.proofs.DirectCommands.to_bytes.Reads as write
 
@@ -57,21 +57,27 @@ module _ (κs : Lfts 1) where
   MeetsWrite f = (c : DirectCommands) (s : List ℕ) → write.Post κs (c, (lent s, tt)) (f c s .0) (c, (lent (f c s .1), tt))
 
   -- ---- M1 and M3, read and written
+  reads : (f : Reader) → MeetsRead f → (p : List ℕ) (c : DirectCommands) → readCommand p ≡ got c → (f p .outcome ≡ Accepted) × (f p .command ≡ c)
+  reads f h p c e = let g = subst (λ (a : Answer DirectCommands). CommandIs a (f p)) e (h p) in (outcome-one (f p .outcome) Accepted (g .0), g .1)
+
+  leaves : (f : Writer) → MeetsWrite f → (c : DirectCommands) → Writes (writingOrder c (length room)) (layoutOf c) (f c room .0) room (f c room .1)
+  leaves f h c =
+      subst (λ (w : List ℕ). Writes (writingOrder c (length room)) w (f c room .0) room (f c room .1)) (payload-is c)
+      (subst (λ (n : ℕ). Writes n (payloadOf c) (f c room .0) room (f c room .1)) (stop-is c (length room)) (h c room))
+
   read-m1 : (f : Reader) → MeetsRead f → (f m1 .outcome ≡ Accepted) × (f m1 .command ≡ disarm)
-  unfolding readItem payloadCheck checkOf remainder
-  read-m1 f h = (outcome-one (f m1 .outcome) Accepted (h m1 .0), h m1 .1)
+  read-m1 f h = reads f h m1 disarm m1-read
 
   read-m3 : (f : Reader) → MeetsRead f → (f m3 .outcome ≡ Accepted) × (f m3 .command ≡ frequency 5800)
-  unfolding readItem payloadCheck checkOf remainder
-  read-m3 f h = (outcome-one (f m3 .outcome) Accepted (h m3 .0), h m3 .1)
+  read-m3 f h = reads f h m3 (frequency 5800) m3-read
 
   write-m1 : (f : Writer) → MeetsWrite f → (f disarm room .0 ≡ Count 5) × (f disarm room .1 ≡ m1 ++ 0 ∷ 0 ∷ [])
   unfolding checkOf remainder
-  write-m1 f h = earned (f disarm room .0) m1 room (f disarm room .1) (h disarm room)
+  write-m1 f h = earned (f disarm room .0) m1 room (f disarm room .1) (leaves f h disarm)
 
   write-m3 : (f : Writer) → MeetsWrite f → (f (frequency 5800) room .0 ≡ Count 7) × (f (frequency 5800) room .1 ≡ m3)
   unfolding checkOf remainder
-  write-m3 f h = earned (f (frequency 5800) room .0) m3 room (f (frequency 5800) room .1) (h (frequency 5800) room)
+  write-m3 f h = earned (f (frequency 5800) room .0) m3 room (f (frequency 5800) room .1) (leaves f h (frequency 5800))
 
   -- ---- "Refusing everything"
   pub refuses-all : (f : Reader) → ((p : List ℕ) → (why : Refusal) × (f p .outcome ≡ Refused why)) → MeetsRead f → ⊥

@@ -41,7 +41,9 @@ use Rattle.families.proofs.PopupLaws.{popup-forth}
 use Rattle.families.proofs.ScreenBack.{started-is, read-made as popup-made}
 use Rattle.commands.specs.Command.{Kept, kept, commandOf, storedIn, madeBeside, made}
 use Rattle.commands.specs.Reading.{bodyIn, checkIn, readPlain, keptScreen, keptAck, readFamily, readAs, readCommand}
+use Rattle.commands.specs.Reading.Text.{read-is}
 use Rattle.commands.specs.Writing.{bodyOf, stopBody, payloadOf, roomOf, stopWriting}
+use Rattle.commands.specs.Writing.Text.{stop-is}
 use Rattle.commands.specs.declared.DirectCommands.{DirectCommands}
 use Rattle.commands.proofs.Laid.{payload-length}
 
@@ -205,12 +207,12 @@ of-kept p dst src id (kept q t) g l w =
         omega (arith, n, s, w .1 .1 .0),
         λ room h.
             let f : stopBody q t (roomOf room) ≡ 0 = w .1 .1 .1 (roomOf room) (room-enough (length (bodyOf q t)) room (omega (arith, n, h)) (omega (arith, s, w .1 .1 .0))) in
-            rw (w .1 .0, le-ltb room 4 (omega (arith, n, h)), e, f),
+            rw (stop-is c room, w .1 .0, le-ltb room 4 (omega (arith, n, h)), e, f),
       ),
     )
 
 there : (p : List ℕ) (c : DirectCommands) → Bytes p → readCommand p ≡ got c → (length p ≤ 60) × CanBeWritten (length p) c
-there p c y h = by (ltb (length p) 4) (ltb 60 (length p)) (eqb (checkIn p) (payloadCheck p)) refl refl h
+there p c y h = by (ltb (length p) 4) (ltb 60 (length p)) (eqb (checkIn p) (payloadCheck p)) refl refl (sym (read-is p) ∙ h)
   where
     as-read : (dst src id : ℕ) → 4 ≤ length p → length p ≤ 60 → readAs dst src id (bodyIn p) ≡ got c → CanBeWritten (length p) c
     as-read dst src id g l d =

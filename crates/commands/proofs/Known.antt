@@ -1,10 +1,11 @@
--- A refusal on reading a payload has a number other than 0: number 0 is a command. Assumes nothing.
-use Prim.Native.Nat.{ℕ}
+-- A refusal on reading a payload has a number other than 0: number 0 is a command. A wrong length is refused. Assumes nothing.
+use Prim.Native.Nat.{ℕ, _<_}
 use mathlib.Core.List.{List, []}
 use mathlib.Core.Path.{_≡_, ap, sym, _∙_}
 use native.Mathlib.Omega.{arith}
 use lib.ListN.{length, getD}
 use lib.Dec.{ltb, eqb}
+use borrow.Author.Tests.{lt-ltb, le-ltb}
 use Rattle.crc.specs.Check.{payloadCheck}
 use Rattle.codec.specs.Sheet.{Answer, got, refused, Row, Said}
 use Rattle.codec.specs.Reading.{readBody}
@@ -28,6 +29,7 @@ use Rattle.families.specs.declared.payload.CommandPayload.the-variants.{Fc, Osd
 use Rattle.families.proofs.Answered.{ack-some, screen-some}
 use Rattle.commands.specs.Command.{kept, commandOf}
 use Rattle.commands.specs.Reading.{bodyIn, checkIn, readPlain, keptScreen, keptAck, readFamily, readCommand, CommandIs}
+use Rattle.commands.specs.Reading.Text.{read-is}
 use Rattle.commands.specs.declared.DirectCommands.{DirectCommands}
 use Rattle.commands.specs.declared.CommandAnswer.{CommandAnswer}
 
@@ -51,11 +53,19 @@ family-some id s =
 
 pub read-some : (p : List ℕ) → Some (readCommand p)
 read-some p =
-    some-pick (ltb (length p) 4) _ _ (some-refused 1 (omega arith))
+    rw (read-is p)
+    (some-pick (ltb (length p) 4) _ _ (some-refused 1 (omega arith))
     (some-pick (ltb 60 (length p)) _ _ (some-refused 1 (omega arith))
     (some-pick (eqb (checkIn p) (payloadCheck p)) _ _
     (some-then (readFamily (getD p 2 0) (bodyIn p)) _ (family-some (getD p 2 0) (bodyIn p)) (λ k. some-got (commandOf (getD p 0 0) (getD p 1 0) k)))
-    (some-refused 2 (omega arith))))
+    (some-refused 2 (omega arith)))))
+
+-- "Length below 4 or above 60: 1", whatever it holds
+pub read-short : (p : List ℕ) → length p < 4 → readCommand p ≡ refused 1 0
+read-short p h = rw (read-is p, lt-ltb (length p) 4 h)
+
+pub read-long : (p : List ℕ) → 60 < length p → readCommand p ≡ refused 1 0
+read-long p h = rw (read-is p, le-ltb (length p) 4 (omega arith), lt-ltb 60 (length p) h)
 
 -- an answer that accepts has its command
 pub accepted-is : (a : Answer DirectCommands) (x : CommandAnswer) → Some a → CommandIs a x → x .outcome ≡ Accepted → a ≡ got (x .command)

@@ -8,3 +8,4 @@ pub mod Forth
 pub mod Examples
 pub mod Excluded
 pub mod OneAnswer
+pub mod Promised

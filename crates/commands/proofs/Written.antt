@@ -8,8 +8,7 @@ use lib.ListN.{length, take, drop, length-append, length-drop}
 use lib.Seq.{sets, length-sets, length-take-le}
 use borrow.Author.Tests.{lt-ltb, le-ltb}
 use borrow.Rule.Slice.PartMut.{putMid, put-same}
-use Rattle.codec.specs.Sheet.{refused}
-use Rattle.codec.specs.Writing.{counted, writeItems}
+use Rattle.codec.specs.Writing.{writeItems}
 use Rattle.codec.specs.Refusals.{refusalNumber}
 use Rattle.codec.specs.Told.{Writes}
 use Rattle.codec.specs.declared.refusal.Refusal.{Refusal}
@@ -34,6 +33,7 @@ use Rattle.families.proofs.RoundTrip.{fc-known, osd-known, led-known, general-k
 use Rattle.families.proofs.Acks.{room-of}
 use Rattle.commands.specs.Command.{storedIn, made}
 use Rattle.commands.specs.Writing.{bodyOf, stopBody, opening, checked, roomOf, stopWriting}
+use Rattle.commands.specs.Writing.Text.{stop-is}
 use Rattle.commands.specs.Closing.{closed}
 use Rattle.commands.specs.declared.DirectCommands.{DirectCommands}
 use Rattle.commands.proofs.Closed.{part-put, closed-is}
@@ -101,13 +101,13 @@ body-refused dst src p t s q k why r h e =
 
 -- the order of writing: "Record not made: 5. Buffer below 4: 3."
 pub stop-unmade : (c : DirectCommands) (n : ℕ) → made c ≡ false → stopWriting c n ≡ 5
-stop-unmade c n h = rw h
+stop-unmade c n h = rw (stop-is c n, h)
 
 pub stop-short : (c : DirectCommands) (n : ℕ) → made c ≡ true → n < 4 → stopWriting c n ≡ 3
-stop-short c n h l = rw (h, lt-ltb n 4 l)
+stop-short c n h l = rw (stop-is c n, h, lt-ltb n 4 l)
 
 pub stop-body : (c : DirectCommands) (n : ℕ) → made c ≡ true → 4 ≤ n → stopWriting c n ≡ stopBody (c .payload) (storedIn c) (roomOf n)
-stop-body c n h l = rw (h, le-ltb n 4 l)
+stop-body c n h l = rw (stop-is c n, h, le-ltb n 4 l)
 
 pub stopped : (stop : ℕ) (w s : List ℕ) (why : Refusal) → stop ≡ refusalNumber why → 0 < refusalNumber why → Writes stop w (Refused why) s s
 stopped zero w s why e h = absurd (omega arith)

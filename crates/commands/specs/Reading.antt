@@ -25,6 +25,7 @@ use Rattle.families.specs.declared.payload.CommandPayload.the-variants.{Fc, Osd
 use Rattle.commands.specs.Command.{Kept, kept, commandOf, blankCommand}
 use Rattle.commands.specs.declared.DirectCommands.{DirectCommands}
 use Rattle.commands.specs.declared.CommandAnswer.{CommandAnswer}
+pub mod Text
 
 -- "destination (1), source (1), command id (1), body, check (1)"
 abbrev pub bodyIn : List ℕ → List ℕ
@@ -66,11 +67,15 @@ abbrev pub readAs : ℕ → ℕ → ℕ → List ℕ → Answer DirectCommands
 readAs dst src id s = andThen (readFamily id s) (λ k. got (commandOf dst src k))
 
 -- "Length below 4 or above 60: 1. Check differs: 2."
-abbrev pub readCommand : List ℕ → Answer DirectCommands
-readCommand p =
+abbrev pub readingOrder : List ℕ → Answer DirectCommands
+readingOrder p =
     pick (ltb (length p) 4) (refused 1 0)
     (pick (ltb 60 (length p)) (refused 1 0)
     (pick (eqb (checkIn p) (payloadCheck p)) (readAs (getD p 0 0) (getD p 1 0) (getD p 2 0) (bodyIn p)) (refused 2 0)))
+
+-- THE reader's answer. Shut: what stands above sees its laws alone
+pub readCommand : List ℕ → Answer DirectCommands
+readCommand p = readingOrder p
 
 -- "With each number come the same blank record"
 abbrev pub CommandIs : Answer DirectCommands → CommandAnswer → Type 0

@@ -21,6 +21,7 @@ use Rattle.families.specs.declared.payload.CommandPayload.{CommandPayload}
 use Rattle.families.specs.declared.payload.CommandPayload.the-variants.{Fc, Osd, Vtx, Led, General, Crossfire, FlowControl, Screen, Ack}
 use Rattle.commands.specs.Command.{storedIn, made}
 use Rattle.commands.specs.declared.DirectCommands.{DirectCommands}
+pub mod Text
 
 -- THE body of a family, with these bytes stored beside it
 abbrev pub bodyOf : CommandPayload → List ℕ → List ℕ
@@ -54,14 +55,21 @@ opening dst src p t = dst ∷ src ∷ familyId p ∷ bodyOf p t
 abbrev pub checked : List ℕ → List ℕ
 checked o = o ++ checkOf commandPolynomial (0x32 ∷ o) ∷ []
 
--- THE payload
-abbrev pub payloadOf : DirectCommands → List ℕ
-payloadOf c = checked (opening (c .«dst_addr») (c .«src_addr») (c .payload) (storedIn c))
+-- a payload, laid out so
+abbrev pub layoutOf : DirectCommands → List ℕ
+layoutOf c = checked (opening (c .«dst_addr») (c .«src_addr») (c .payload) (storedIn c))
 
 -- "room R = min(length, 60) - 4 for the body"
 abbrev pub roomOf : ℕ → ℕ
 roomOf n = pick (leb n 60) n 60 - 4
 
 -- the number that stops writing into so many bytes; 0: none. "Record not made: 5. Buffer below 4: 3. Then room .. for the body."
-abbrev pub stopWriting : DirectCommands → ℕ → ℕ
-stopWriting c n = pick (made c) (pick (ltb n 4) 3 (stopBody (c .payload) (storedIn c) (roomOf n))) 5
+abbrev pub writingOrder : DirectCommands → ℕ → ℕ
+writingOrder c n = pick (made c) (pick (ltb n 4) 3 (stopBody (c .payload) (storedIn c) (roomOf n))) 5
+
+-- THE payload, and THE number that stops writing it. Shut: what stands above sees their laws alone
+pub payloadOf : DirectCommands → List ℕ
+payloadOf c = layoutOf c
+
+pub stopWriting : DirectCommands → ℕ → ℕ
+stopWriting c n = writingOrder c n

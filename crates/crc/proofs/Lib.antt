@@ -4,6 +4,8 @@ pub mod Remainders
 pub mod Worked
 pub mod Loops
 pub mod Laws
+pub mod Zeros
+pub mod Renewed
 pub mod Examples
 pub mod OneAnswer
 pub mod Promised

@@ -9,8 +9,11 @@ use denote.Ref.{now}
 use Rattle.crc.specs.Polynomial.{x, Remainder}
 use Rattle.crc.specs.Check.{commandPolynomial, message, startedMessage, allButLast}
 use Rattle.crc.proofs.Laws.{command, from-is-remainder, payload-check-is-remainder}
+use Rattle.crc.proofs.Zeros.{zeros-remainder}
 use Rattle.crc.proofs.check.Reads as check
 use Rattle.crc.proofs.check.Kinds as check-kinds
+use Rattle.crc.proofs.followed.Reads as followed
+use Rattle.crc.proofs.followed.Kinds as followed-kinds
 use Rattle.crc.proofs.payload_check.Reads as payload-check
 use Rattle.crc.proofs.payload_check.Kinds as payload-check-kinds
 
@@ -21,6 +24,15 @@ pub check-remainder : (κs : Lfts 1)
     → check.Post κs a r s
     → Remainder commandPolynomial (startedMessage (a .1 .0) (now (a .0))) r
 check-remainder κs a r s p = rw p (from-is-remainder command (a .1 .0) (now (a .0)))
+
+-- the check times x^8 for each byte 00
+pub followed-remainder : (κs : Lfts 0)
+    (a : Dens κs followed-kinds.ps)
+    (r : resT followed-kinds.r κs .Denot)
+    (s : AtExit (endedOf 0 followed-kinds.ps followed-kinds.r) κs)
+    → followed.Post κs a r s
+    → Remainder commandPolynomial (a .0 * x ^ (8 * a .1 .0)) r
+followed-remainder κs a r s p = rw p (zeros-remainder command (a .1 .0) (a .0))
 
 pub payload-check-remainder : (κs : Lfts 1)
     (a : Dens κs payload-check-kinds.ps)

@@ -1,6 +1,7 @@
 // The check of document 01, "The payload and its check": the Rust's COMMAND_CRC_ALGO, by bit.
 ghost use mathlib.Core.Path.{_≡_};
-ghost use Prim.Native.Nat.{_-_};
+ghost use Prim.Native.Nat.{_-_, _*_};
+ghost use lib.ListN.{replicate};
 ghost use Rattle.crc.specs.Check.{commandPolynomial, checkFrom, payloadCheck};
 ghost use Rattle.crc.specs.Steps.{step, steps};
 
@@ -45,6 +46,31 @@ pub fn check(bytes: &[u8], start: u8) -> u8
         i += 1;
     }
     r
+}
+
+// n times the eight steps.
+fn turns(r: u8, n: usize) -> u8
+    ensures { λ s. ⌜ s ≡ steps commandPolynomial (8 * n) r ⌝ }
+{
+    let mut s = r;
+    let mut i: usize = 0;
+    while i < n {
+        s = eight_steps(s);
+        i += 1;
+    }
+    s
+}
+
+// The check after n more bytes 00, at a cost that does not grow with n: behind one of them seven more change nothing, for x^64 and
+// x^8 leave the same remainder.
+pub fn followed(check: u8, n: usize) -> u8
+    ensures { λ r. ⌜ r ≡ checkFrom commandPolynomial check (replicate n 0) ⌝ }
+{
+    if 0 < n {
+        turns(check, (n - 1) % 7 + 1)
+    } else {
+        check
+    }
 }
 
 fn but_last(len: usize) -> usize

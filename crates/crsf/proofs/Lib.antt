@@ -4,3 +4,4 @@ pub mod Refusals
 pub mod OneAnswerMade
 pub mod WritesOut
 pub mod OneAnswerCommand
+pub mod OneAnswerEdits

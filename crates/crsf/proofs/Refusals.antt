@@ -4,6 +4,7 @@ use mathlib.Core.List.{List}
 use native.Mathlib.Omega.{arith}
 use lib.ListN.{length, take, drop, getD}
 use lib.Dec.{leb, eqb}
+use Rattle.codec.specs.Same.{same}
 use Rattle.codec.specs.Sheet.{Answer, got, refused}
 use Rattle.codec.specs.Writing.{nonzero}
 use Rattle.families.specs.Text.{newText, zeros}
@@ -15,7 +16,7 @@ use Rattle.families.specs.declared.screen.ScreenPopup.{ScreenPopup}
 use Rattle.families.specs.declared.screen.ScreenPopupFields.{ScreenPopupFields}
 use Rattle.images.specs.Popup.{popupFrom}
 use Rattle.images.specs.Fields.{known, fieldsAt, fieldsFrom}
-use Rattle.images.specs.Record.{recordImage, recordAt, same, recordFrom}
+use Rattle.images.specs.Record.{recordImage, recordAt, recordFrom}
 use Rattle.codec.proofs.Refused.{Some, some-got, some-refused, some-pick}
 
 pub text-some : (v : List ℕ) → Some (newText v)

@@ -62,7 +62,7 @@ inspect-of k p vs o l =
     )
 
 -- a number alone in its item
-single-of : (lo hi : ℕ) (v : List ℕ) → okItem (number 1 lo hi) v ≡ true → (first v ∷ [] ≡ v) × (first v ≤ hi)
+pub single-of : (lo hi : ℕ) (v : List ℕ) → okItem (number 1 lo hi) v ≡ true → (first v ∷ [] ≡ v) × (first v ≤ hi)
 single-of lo hi [] h = let z : _≡_ {A = ℕ} 0 1 = cc in absurd (omega arith)
 single-of lo hi (n ∷ []) h =
     let p = passed (ltb n lo) (pick (ltb hi n) false true) h in

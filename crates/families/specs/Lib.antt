@@ -14,3 +14,4 @@ pub mod Screen
 pub mod Sizes
 pub mod Places
 pub mod Payload
+pub mod Body

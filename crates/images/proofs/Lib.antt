@@ -4,5 +4,4 @@ pub mod PopupLaws
 pub mod FieldsPut
 pub mod FieldsLaws
 pub mod OneAnswerImages
-pub mod Same
 pub mod RecordLaws

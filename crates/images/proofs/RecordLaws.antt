@@ -14,6 +14,8 @@ use Rattle.codec.specs.Writing.{putAt}
 use Rattle.codec.specs.declared.refusal.Outcome.the-variants.{Accepted}
 use Rattle.codec.proofs.Digits.{number-bytes}
 use Rattle.codec.proofs.Writes.{put-fits, length-put}
+use Rattle.codec.specs.Same.{same}
+use Rattle.codec.proofs.Same.{same-self, same-true, same-seam}
 use Rattle.families.specs.Payload.{familyId}
 use Rattle.families.specs.declared.fc.FcCommand.the-variants.{ForceDisarm, ScaleChannel}
 use Rattle.families.specs.declared.vtx.VtxCommand.{VtxCommand}
@@ -36,10 +38,9 @@ use Rattle.commands.specs.declared.DirectCommands.{DirectCommands}
 use Rattle.commands.specs.declared.CommandAnswer.{CommandAnswer}
 use Rattle.images.specs.Text.{stored}
 use Rattle.images.specs.Values.{payloadLaid, wordAt, longAt, payloadAt}
-use Rattle.images.specs.Record.{recordImage, recordAt, same, recordFrom}
+use Rattle.images.specs.Record.{recordImage, recordAt, recordFrom}
 use Rattle.images.proofs.TextLaws.{front-put, copied-whole, byte-mod}
 use Rattle.images.proofs.FieldsLaws.{bit-back}
-use Rattle.images.proofs.Same.{same-self, same-true, same-seam}
 
 -- a number of four bytes is two of two
 pub long-is : (s : List ℕ) (at r a b : ℕ) → r ≡ a * 65536 + b → a ≡ wordAt s at → b ≡ wordAt s (at + 2) → r ≡ longAt s at

@@ -1,10 +1,10 @@
 -- The C boundary's image of a whole command record. Assumes nothing.
 use Prim.Native.Nat.{ℕ}
-use mathlib.Core.Bool.{Bool, true, false}
-use mathlib.Core.List.{List, [], _∷_, _++_}
+use mathlib.Core.List.{List, _∷_, _++_}
 use lib.ListN.{length, drop, getD}
 use lib.Dec.{eqb}
 use Rattle.codec.specs.Pick.{pick}
+use Rattle.codec.specs.Same.{same}
 use Rattle.codec.specs.Sheet.{Answer, got, refused}
 use Rattle.families.specs.Payload.{familyId}
 use Rattle.commands.specs.declared.DirectCommands.{DirectCommands}
@@ -18,12 +18,6 @@ recordImage c = c .«dst_addr» ∷ c .«src_addr» ∷ familyId (c .payload) �
 -- AN IMAGE HANDED IN: each part at its place
 abbrev pub recordAt : List ℕ → DirectCommands
 recordAt s = record { «dst_addr» = getD s 0 0; «src_addr» = getD s 1 0; payload = payloadAt s; len = getD s 14 0; bytes = drop 15 s }
-
-abbrev pub same : List ℕ → List ℕ → Bool
-same [] [] = true
-same [] (b ∷ s) = false
-same (a ∷ r) [] = false
-same (a ∷ r) (b ∷ s) = pick (eqb a b) (same r s) false
 
 -- "An image handed in that has another length, or that is the image of no record (an unknown id or sub-command, a flag byte .. out of
 -- range, a nonzero byte after the values), is 5": its parts have another image

@@ -16,6 +16,7 @@ use Rattle.codec.specs.Sheet.{Answer}
 use Rattle.codec.proofs.Loops.{sets-append}
 use Rattle.commands.specs.Reading.{readCommand}
 use Rattle.commands.specs.declared.DirectCommands.{DirectCommands}
+use Rattle.commands.proofs.Known.{read-long}
 use Rattle.listing.specs.Listing.{lineOf, linesFrom, listing}
 use Rattle.listing.specs.Step.{inLimits, opened, keptWith, lineWith, goOn, stepOf, closing}
 use Rattle.listing.specs.Chunks.{Fed, fed, linesIn, stateIn, before, steps, last, inChunks, joined}
@@ -24,7 +25,7 @@ use Rattle.listing.specs.declared.line.Line.the-variants.{Cut}
 use Rattle.listing.specs.declared.Listing.{Listing}
 use Rattle.listing.specs.declared.Listed.the-variants.{Line as Found, Nothing}
 use Rattle.listing.specs.declared.Step.{Step}
-use Rattle.listing.proofs.StepLaws.{picked, passed, limits-between, limits-inside, goes-none, goes-line, step-none, step-opens, step-goes, closing-end, closing-cut, read-long, take-put, line-whole}
+use Rattle.listing.proofs.StepLaws.{picked, passed, limits-between, limits-inside, goes-none, goes-line, step-none, step-opens, step-goes, closing-end, closing-cut, take-put, line-whole}
 
 -- ---- the listing from record k on does not depend on its bound
 abbrev lines : ℕ → List ℕ → List Line

@@ -1,11 +1,15 @@
 -- Document 01's example, of the definitions: its lines, and their text. Assumes nothing.
 use Prim.Native.Nat.{ℕ}
 use mathlib.Core.List.{List, [], _∷_, map}
-use mathlib.Core.Path.{_≡_, refl}
-use Rattle.crc.specs.Polynomial.{remainder}
-use Rattle.crc.specs.Check.{checkOf, payloadCheck}
-use Rattle.codec.specs.Reading.{readItem}
-use Rattle.listing.specs.Listing.{listing}
+use mathlib.Core.Path.{_≡_, refl, ap, _∙_}
+use native.Mathlib.Omega.{arith}
+use Rattle.codec.specs.Sheet.{Answer}
+use Rattle.commands.specs.Reading.{readCommand}
+use Rattle.commands.specs.declared.DirectCommands.{DirectCommands}
+use Rattle.commands.proofs.Known.{read-short}
+use Rattle.commands.proofs.Laid.{payload-length}
+use Rattle.commands.proofs.Examples.{disarm, frequency, m1, m3, m1-read, m3-read}
+use Rattle.listing.specs.Listing.{lineOf, listing}
 use Rattle.listing.specs.Text.{textOf}
 use Rattle.listing.specs.Chunks.{joined}
 use Rattle.listing.specs.declared.line.Line.{Line}
@@ -22,9 +26,21 @@ example =
 abbrev pub exampleLines : List Line
 exampleLines = Read 0 0x01 5 ∷ Read 1 0x08 7 ∷ Refused 2 1 ∷ Cut 3 ∷ []
 
+-- its records: M1, M3, none
+m1-line : lineOf 0 (readCommand m1) ≡ Read 0 0x01 5
+m1-line = ap (λ (a : Answer DirectCommands). lineOf 0 a) m1-read ∙ ap (λ (n : ℕ). Read 0 0x01 n) (payload-length disarm)
+
+m3-line : lineOf 1 (readCommand m3) ≡ Read 1 0x08 7
+m3-line = ap (λ (a : Answer DirectCommands). lineOf 1 a) m3-read ∙ ap (λ (n : ℕ). Read 1 0x08 n) (payload-length (frequency 5800))
+
+none-line : lineOf 2 (readCommand []) ≡ Refused 2 1
+none-line = ap (λ (a : Answer DirectCommands). lineOf 2 a) (read-short [] (omega arith))
+
+lines-by : (a b c : Line) → lineOf 0 (readCommand m1) ≡ a → lineOf 1 (readCommand m3) ≡ b → lineOf 2 (readCommand []) ≡ c → listing example ≡ a ∷ b ∷ c ∷ Cut 3 ∷ []
+lines-by a b c e f g = rw (← e, ← f, ← g)
+
 pub example-lines : listing example ≡ exampleLines
-unfolding payloadCheck checkOf remainder readItem
-example-lines = refl
+example-lines = lines-by (Read 0 0x01 5) (Read 1 0x08 7) (Refused 2 1) m1-line m3-line none-line
 
 -- "0 read 01 5", "1 read 08 7", "2 refused 1", "cut 3"
 pub example-text : joined (map textOf exampleLines)

@@ -11,7 +11,7 @@ use Rattle.families.specs.declared.payload.CommandPayload.the-variants.{Ack}
 use Rattle.commands.specs.Command.{storedIn}
 use Rattle.commands.specs.Writing.{bodyOf, payloadOf}
 use Rattle.commands.specs.declared.DirectCommands.{DirectCommands}
-use Rattle.commands.proofs.Written.{checked-length}
+use Rattle.commands.proofs.Laid.{payload-length}
 use Rattle.listing.specs.Listing.{lineOf}
 use Rattle.listing.specs.declared.line.Line.the-variants.{Read, Refused}
 
@@ -22,7 +22,7 @@ ack-length a t = rw (append-nil (t ++ 0 ∷ []), length-append t (0 ∷ [])) (om
 pub line-got : (a : Answer DirectCommands) (c : DirectCommands) (k id n : ℕ) → a ≡ got c → id ≡ familyId (c .payload)
     → n ≡ length (bodyOf (c .payload) (storedIn c)) → Read k id (n + 4) ≡ lineOf k a
 line-got a c k id n e f g =
-    let l : n + 4 ≡ length (payloadOf c) = ap (λ (m : ℕ). m + 4) g ∙ sym (checked-length (c .«dst_addr») (c .«src_addr») (c .payload) (storedIn c)) in
+    let l : n + 4 ≡ length (payloadOf c) = ap (λ (m : ℕ). m + 4) g ∙ sym (payload-length c) in
     rw (e, f, l)
 
 pub line-refused : (a : Answer DirectCommands) (k n p m : ℕ) → a ≡ refused n p → m ≡ n → Refused k m ≡ lineOf k a

@@ -15,6 +15,7 @@ use Rattle.codec.specs.declared.refusal.Refusal.the-variants.{RecordNotMade}
 use Rattle.codec.proofs.Writes.{put-fits}
 use Rattle.commands.specs.Reading.{readCommand}
 use Rattle.commands.specs.declared.DirectCommands.{DirectCommands}
+use Rattle.commands.proofs.Known.{read-long}
 use Rattle.listing.specs.Listing.{lineOf}
 use Rattle.listing.specs.Step.{inLimits, opened, keptWith, lineWith, goOn, stepOf, closing}
 use Rattle.listing.specs.declared.line.Line.{Line}
@@ -154,11 +155,6 @@ line-joined s t b r h l e f g =
     g
     ∙ ap (λ (p : List ℕ). lineOf (s .count) (readCommand p)) k
     ∙ ap (λ (a : Answer DirectCommands). lineOf (s .count) a) (sym (passed (ltb 60 (s .wanted)) _ _ (le-ltb 60 (s .wanted) h)))
-
--- "Length .. above 60: 1", whatever it holds
-pub read-long : (p : List ℕ) → 60 < length p → readCommand p ≡ refused 1 0
-read-long p h =
-    passed (ltb (length p) 4) _ _ (le-ltb (length p) 4 (omega arith)) ∙ picked (ltb 60 (length p)) _ _ (lt-ltb 60 (length p) h)
 
 -- a payload that lies whole in the chunk
 pub line-whole : (k n : ℕ) (t : List ℕ) → length t ≡ n → lineOf k (readCommand t) ≡ lineWith (opened k n) t

@@ -21,7 +21,7 @@ fn is_word(word: u32, number: u8, count: usize) -> bool {
     word % 256 == number as u32 && word / 256 == (count % 256) as u32
 }
 
-fn is_left(stored: &[u8], space: &[u8]) -> bool {
+pub(crate) fn is_left(stored: &[u8], space: &[u8]) -> bool {
     if stored.len() < 1 {
         return false;
     }
@@ -29,7 +29,7 @@ fn is_left(stored: &[u8], space: &[u8]) -> bool {
     same(stored, 1, space, 0, n) && untouched(space, n)
 }
 
-fn is_image(stored: &[u8], word: u32, space: &[u8]) -> bool {
+pub(crate) fn is_image(stored: &[u8], word: u32, space: &[u8]) -> bool {
     is_left(stored, space) && is_word(word, at(stored, 0), 0)
 }
 

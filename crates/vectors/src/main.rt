@@ -2,6 +2,7 @@
 ghost use Prim.Native.Nat.{_<_};
 
 mod boundary;
+mod edited;
 mod plain;
 
 enum Part {
@@ -18,7 +19,7 @@ enum Record {
 
 // Of each kind, by its number; what is no kind counts as 0.
 struct Tally {
-    kinds: [u64; 9],
+    kinds: [u64; 11],
     differ: u64,
     cut: u64,
 }
@@ -38,6 +39,10 @@ const ACK: u8 = 6;
 const POPUP: u8 = 7;
 
 const INSPECT: u8 = 8;
+
+const EDIT: u8 = 9;
+
+const EDIT_LIST: u8 = 10;
 
 // A length of two bytes, then that many bytes, which go to the start of `space`.
 fn read_part(space: &mut [u8]) -> Part {
@@ -72,6 +77,8 @@ fn agrees(kind: u8, input: &[u8], stored: &[u8]) -> bool {
         ACK => boundary::ack_agrees(input, stored),
         POPUP => boundary::popup_agrees(input, stored),
         INSPECT => boundary::inspect_agrees(input, stored),
+        EDIT => edited::edit_agrees(input, stored),
+        EDIT_LIST => edited::edit_list_agrees(input, stored),
         _ => false,
     }
 }
@@ -117,9 +124,9 @@ fn one_more(n: u64) -> u64 {
 }
 
 fn place_of(kind: u8) -> usize
-    ensures { λ r. ⌜ r < 9 ⌝ }
+    ensures { λ r. ⌜ r < 11 ⌝ }
 {
-    if kind < 9 { kind as usize } else { 0 }
+    if kind < 11 { kind as usize } else { 0 }
 }
 
 fn counted(t: Tally, r: Record) -> Tally {
@@ -170,7 +177,7 @@ fn name_differing(r: Record, n: u64) {
 // A proved loop has to end, and nothing says that the input does: no list has as many records as this loop has turns.
 fn replay() -> Tally {
     let mut tally = Tally {
-        kinds: [0u64; 9],
+        kinds: [0u64; 11],
         differ: 0,
         cut: 0,
     };
@@ -196,6 +203,8 @@ fn main() {
     print_line(b"ack ", kinds[6]);
     print_line(b"popup ", kinds[7]);
     print_line(b"inspect ", kinds[8]);
+    print_line(b"edit ", kinds[9]);
+    print_line(b"edit list ", kinds[10]);
     print_line(b"differ ", tally.differ);
     print_line(b"cut ", tally.cut);
 }

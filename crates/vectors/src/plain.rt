@@ -7,6 +7,11 @@ pub(crate) fn wide(x: u8) -> usize
     x as usize
 }
 
+// A number of four bytes.
+pub(crate) fn number(a: u8, b: u8, c: u8, d: u8) -> u32 {
+    (wide(a) * 16777216 + wide(b) * 65536 + wide(c) * 256 + wide(d)) as u32
+}
+
 // 0 past the end.
 pub(crate) fn at(s: &[u8], i: usize) -> u8 {
     if i < s.len() { s[i] } else { 0 }

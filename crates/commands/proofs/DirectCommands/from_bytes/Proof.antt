@@ -6,6 +6,7 @@ use denote.Ref.{now}
 use lib.ListN.{length}
 use borrow.Author.Tests.{lt-ltb, le-ltb, eq-eqb, ne-eqb}
 use Rattle.commands.specs.Reading.{checkIn}
+use Rattle.commands.specs.Reading.Text.{read-is}
 use borrow.Author.Needs.{needs}
 use Rattle.commands.proofs.DirectCommands.from_bytes.Statement.{statement}
 use Rattle.commands.proofs.DirectCommands.from_bytes.Tie as tie
@@ -14,13 +15,13 @@ refused-with-requires : tie.Need-refused-with-requires
 refused-with-requires c κs = search needs
 
 returns : tie.Need-returns
-returns c = rw (lt-ltb (length (now (c .before .before .before .args .payload))) 4 (c .before .if1 .taken)) (c .refused-with .ensures)
+returns c = rw (read-is (now (c .before .before .before .args .payload)), lt-ltb (length (now (c .before .before .before .args .payload))) 4 (c .before .if1 .taken)) (c .refused-with .ensures)
 
 refused-with-requires-2 : tie.Need-refused-with-requires-2
 refused-with-requires-2 c κs = search needs
 
 returns-2 : tie.Need-returns-2
-returns-2 c = rw (le-ltb (length (now (c .before .before .before .before .args .payload))) 4 (c .before .before .if1 .left), lt-ltb 60 (length (now (c .before .before .before .before .args .payload))) (c .before .if2 .taken)) (c .refused-with2 .ensures)
+returns-2 c = rw (read-is (now (c .before .before .before .before .args .payload)), le-ltb (length (now (c .before .before .before .before .args .payload))) 4 (c .before .before .if1 .left), lt-ltb 60 (length (now (c .before .before .before .before .args .payload))) (c .before .if2 .taken)) (c .refused-with2 .ensures)
 
 payload-check-requires : tie.Need-payload-check-requires
 payload-check-requires c κs = search needs
@@ -35,7 +36,7 @@ refused-with-requires-3 : tie.Need-refused-with-requires-3
 refused-with-requires-3 c κs = search needs
 
 returns-3 : tie.Need-returns-3
-returns-3 c = let d = ne-eqb (checkIn (now (c .before .before .before .before .before .before .before .args .payload))) (c .before .before .before .payload-check .result) (c .before .if3 .taken) in rw (le-ltb (length (now (c .before .before .before .before .before .before .before .args .payload))) 4 (c .before .before .before .before .before .if1 .left), le-ltb 60 (length (now (c .before .before .before .before .before .before .before .args .payload))) (c .before .before .before .before .if2 .left), ← (c .before .before .before .payload-check .ensures), d) (c .refused-with3 .ensures)
+returns-3 c = let d = ne-eqb (checkIn (now (c .before .before .before .before .before .before .before .args .payload))) (c .before .before .before .payload-check .result) (c .before .if3 .taken) in rw (read-is (now (c .before .before .before .before .before .before .before .args .payload)), le-ltb (length (now (c .before .before .before .before .before .before .before .args .payload))) 4 (c .before .before .before .before .before .if1 .left), le-ltb 60 (length (now (c .before .before .before .before .before .before .before .args .payload))) (c .before .before .before .before .if2 .left), ← (c .before .before .before .payload-check .ensures), d) (c .refused-with3 .ensures)
 
 shared-slice-read-read-family : tie.Need-shared-slice-read-read-family
 shared-slice-read-read-family c = search needs
@@ -64,7 +65,7 @@ read-family-requires c κs = search needs
 returns-4 : tie.Need-returns-4
 returns-4 c = let d = eq-eqb (checkIn (now (c .before .before .before .before .before .before .before .before .before .before .before .args .payload))) (c .before .before .before .before .before .before .before .payload-check .result) (c .before .before .before .before .before .if3 .left) in
     let e : length (now (c .before .before .before .before .before .before .before .before .before .before .before .args .payload)) - 4 ≡ length (now (c .before .before .before .before .before .before .before .before .before .before .before .args .payload)) - 1 - 3 = omega arith in
-    rw (le-ltb (length (now (c .before .before .before .before .before .before .before .before .before .before .before .args .payload))) 4 (c .before .before .before .before .before .before .before .before .before .if1 .left), le-ltb 60 (length (now (c .before .before .before .before .before .before .before .before .before .before .before .args .payload))) (c .before .before .before .before .before .before .before .before .if2 .left), ← (c .before .before .before .before .before .before .before .payload-check .ensures), d, e) (c .read-family .ensures)
+    rw (read-is (now (c .before .before .before .before .before .before .before .before .before .before .before .args .payload)), le-ltb (length (now (c .before .before .before .before .before .before .before .before .before .before .before .args .payload))) 4 (c .before .before .before .before .before .before .before .before .before .if1 .left), le-ltb 60 (length (now (c .before .before .before .before .before .before .before .before .before .before .before .args .payload))) (c .before .before .before .before .before .before .before .before .if2 .left), ← (c .before .before .before .before .before .before .before .payload-check .ensures), d, e) (c .read-family .ensures)
 
 pub from-bytes-spec : {M : Type 1} → statement M
 from-bytes-spec =

@@ -5,6 +5,7 @@ use denote.Ref.{now}
 use lib.ListN.{length}
 use Rattle.codec.specs.declared.refusal.Refusal.the-variants.{BufferOverflow, RecordNotMade}
 use Rattle.commands.specs.Writing.{payloadOf, stopWriting}
+use Rattle.commands.specs.Writing.Text.{payload-is}
 use Rattle.commands.proofs.Written.{stop-unmade, stop-short, stop-body, stopped}
 use borrow.Author.Needs.{needs}
 use Rattle.commands.proofs.DirectCommands.to_bytes.Statement.{statement}
@@ -29,7 +30,7 @@ same-length : tie.Need-same-length
 same-length c = search needs
 
 returns-2 : tie.Need-returns-2
-returns-2 c = rw (stop-body (c .before .before .before .before .before .before .before .before .before .before .before .args .self) (length (now (c .before .before .before .before .before .before .before .before .before .before .before .args .buffer))) (sym (c .before .before .before .before .before .before .before .is-made .ensures) ∙ c .before .before .before .before .before .before .if1 .taken) (c .before .before .before .before .before .if2 .left)) (c .before .before .write-made .ensures)
+returns-2 c = rw (stop-body (c .before .before .before .before .before .before .before .before .before .before .before .args .self) (length (now (c .before .before .before .before .before .before .before .before .before .before .before .args .buffer))) (sym (c .before .before .before .before .before .before .before .is-made .ensures) ∙ c .before .before .before .before .before .before .if1 .taken) (c .before .before .before .before .before .if2 .left), payload-is (c .before .before .before .before .before .before .before .before .before .before .before .args .self)) (c .before .before .write-made .ensures)
 
 returns-3 : tie.Need-returns-3
 returns-3 c = stopped (stopWriting (c .before .before .before .before .before .args .self) (length (now (c .before .before .before .before .before .args .buffer)))) (payloadOf (c .before .before .before .before .before .args .self)) (now (c .before .before .before .before .before .args .buffer)) RecordNotMade (stop-unmade (c .before .before .before .before .before .args .self) (length (now (c .before .before .before .before .before .args .buffer))) (sym (c .before .is-made .ensures) ∙ c .if1 .left)) (omega arith)

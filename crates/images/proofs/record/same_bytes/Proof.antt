@@ -4,8 +4,8 @@ use mathlib.Core.Path.{_≡_, refl}
 use lib.ListN.{length, drop}
 use denote.Ref.{now}
 use borrow.Author.Needs.{needs}
-use Rattle.images.specs.Record.{same}
-use Rattle.images.proofs.Same.{same-differs, same-on, same-ends}
+use Rattle.codec.specs.Same.{same}
+use Rattle.codec.proofs.Same.{same-differs, same-on, same-ends}
 use Rattle.images.proofs.record.same_bytes.Statement.{statement}
 use Rattle.images.proofs.record.same_bytes.Tie as tie
 

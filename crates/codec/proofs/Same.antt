@@ -9,9 +9,9 @@ use lib.ListN.{length, drop, getD, drop-of-length-le}
 use lib.Seq.{drop-cons}
 use lib.Dec.{eqb}
 use borrow.Author.Tests.{eq-eqb, ne-eqb, eqb-true}
 use Rattle.codec.specs.Pick.{pick}
+use Rattle.codec.specs.Same.{same}
 use Rattle.codec.proofs.Back.{both}
-use Rattle.images.specs.Record.{same}
 
 pub same-self : (s : List ℕ) → same s s ≡ true
 same-self [] = refl

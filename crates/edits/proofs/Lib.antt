@@ -1,0 +1,16 @@
+pub mod Renewal
+pub mod Patched
+pub mod Held
+pub mod With
+pub mod Step
+pub mod Served
+pub mod Places
+pub mod Search
+pub mod Applied
+pub mod AsWritten
+pub mod Turns
+pub mod AnyEdits
+pub mod Contracts
+pub mod OneAnswer
+pub mod Examples
+pub mod Excluded

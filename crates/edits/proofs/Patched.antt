@@ -1,0 +1,71 @@
+-- A number put into its field where it stands, and the check renewed: what the code reads and stores. Assumes nothing.
+use Prim.Native.Nat.{ℕ, _+_, _-_, _*_, _/_, _%_, _^_, _<_, _≤_}
+use mathlib.Core.List.{List, [], _∷_}
+use mathlib.Core.Path.{_≡_, refl, _∙_}
+use native.Mathlib.Omega.{arith}
+use native.Mathlib.Nat.{le-trans, lt-of-lt-of-le, mod-le, mul-le-mul-right, div-mul-le-self}
+use lib.ListN.{length, take, drop, getD, set, replicate, length-drop}
+use lib.Seq.{length-take-le}
+use lib.Pow.{pow-mono}
+use borrow.Author.Tests.{le-ltb}
+use Rattle.crc.specs.Polynomial.{plus}
+use Rattle.crc.specs.Check.{commandPolynomial, checkFrom, Bytes}
+use Rattle.crc.proofs.Laws.{bytes-take}
+use Rattle.codec.specs.Digits.{numberOf, bytesOf}
+use Rattle.codec.specs.Sheet.{got, number}
+use Rattle.codec.specs.Reading.{readItem}
+use Rattle.codec.specs.Writing.{putAt}
+use Rattle.codec.specs.Edit.{replaced}
+use Rattle.codec.specs.Told.{toldNumber}
+use Rattle.codec.specs.declared.refusal.Refusal.{Refusal}
+use Rattle.codec.specs.declared.reader.NumberRead.{NumberRead}
+use Rattle.codec.specs.declared.reader.NumberRead.the-variants.{Got, Refused}
+use Rattle.codec.proofs.Digits.{length-bytesOf}
+use Rattle.codec.proofs.Forth.{bytes-drop, bytes-number}
+use Rattle.codec.proofs.Items.{number-is}
+use Rattle.codec.proofs.Narrow.{sets-behind}
+use Rattle.codec.proofs.Writes.{put-fits}
+use Rattle.edits.specs.Change.{held, patched, changed}
+
+-- what a field counts for is a part of the number
+pub field-part : (x u m : ℕ) → x / u % m * u ≤ x
+field-part x u m = le-trans (mul-le-mul-right u (mod-le (x / u) m)) (div-mul-le-self x u)
+
+module _ (s : List ℕ) (at v w : ℕ) (y : Bytes s) (e : v ≡ w) (l : w ≤ 4) (h : at + w ≤ length s) where
+  -- a number of at most 4 bytes that are there is never refused
+  number-got : readItem (number v 0 4294967295) (drop at s) ≡ got (numberOf (held s at w) ∷ [])
+  number-got =
+      let d : w ≤ length (drop at s) = rw length-drop (omega arith) in
+      let n = numberOf (held s at w) in
+      let b = bytes-number (held s at w) w (length-take-le w (drop at s) d) (bytes-take w (drop at s) (bytes-drop at s y)) .1 in
+      let q : 8 * w ≤ 32 = omega arith in
+      let k : n < 2 ^ 32 = lt-of-lt-of-le b (pow-mono q) in
+      rw (e, number-is w 0 4294967295 s at n h (refl, b), le-ltb n 0 (omega arith), le-ltb 4294967295 n (omega arith))
+
+  pub number-held : (r : NumberRead) (x : ℕ) → r ≡ Got x → toldNumber r ≡ readItem (number v 0 4294967295) (drop at s) → x ≡ numberOf (held s at w)
+  number-held r x f t =
+      let g : got (x ∷ []) ≡ got (numberOf (held s at w) ∷ []) = (rw f at t) ∙ number-got in cc
+
+  pub never-refused : (r : NumberRead) (k : Refusal) → r ≡ Refused k → toldNumber r ≡ readItem (number v 0 4294967295) (drop at s) → ⊥
+  never-refused r k f t =
+      let g = (rw f at t) ∙ number-got in
+      let z : _≡_ {A = ℕ} 0 1 = cc in omega arith
+
+-- what is stored where the bytes have room
+pub field-put : (s t : List ℕ) (at v w u m n x k : ℕ) → v ≡ w → at + w ≤ length s → x ≡ numberOf (held s at w) → k ≡ replaced u m x n
+    → t ≡ putAt s at (bytesOf v k) → t ≡ patched s at w u m n
+field-put s t at v w u m n x k e h f g p =
+    let y = replaced u m (numberOf (held s at w)) n in
+    let q : t ≡ putAt s at (bytesOf w y) = rw (e, g, f) at p in
+    q ∙ put-fits s at (bytesOf w y) (rw length-bytesOf h)
+
+-- the last byte is as it was, and the checks are those of the bytes of the field
+pub check-put : (s t : List ℕ) (at w u m n a b f : ℕ) → at + w < length s → t ≡ patched s at w u m n
+    → a ≡ checkFrom commandPolynomial 0 (take (at + w - at) (drop at s)) → b ≡ checkFrom commandPolynomial 0 (take (at + w - at) (drop at t))
+    → f ≡ checkFrom commandPolynomial (plus a b) (replicate (length s - 1 - (at + w)) 0)
+    → set t (length s - 1) (plus (getD t (length s - 1) 0) f) ≡ changed s at w u m n
+check-put s t at w u m n a b f h p x y z =
+    let d : at + w - at ≡ w = omega arith in
+    let c = bytesOf w (replaced u m (numberOf (held s at w)) n) in
+    let g : getD (patched s at w u m n) (length s - 1) 0 ≡ getD s (length s - 1) 0 = sets-behind s c at (length s - 1) (rw length-bytesOf (omega arith)) in
+    rw (z, x, y, d, p, g)

@@ -1,0 +1,43 @@
+-- `edit` meets its contract. Assumes nothing.
+use borrow.Author.Needs.{needs}
+use denote.Ref.{now}
+use Rattle.edits.proofs.Turns.{opened-is, refused-is, edit-refused}
+use Rattle.edits.proofs.edit.Statement.{statement}
+use Rattle.edits.proofs.edit.Tie as tie
+
+open-requires : tie.Need-open-requires
+open-requires c κs = search needs
+
+enum-known-sheet : tie.Need-enum-known-sheet
+enum-known-sheet c = search needs
+
+apply-requires : tie.Need-apply-requires
+apply-requires c κs = opened-is (now (c .before .before .before .before .before .before .before .args .payload)) (c .before .before .before .before .«open» .result) (c .before .before .sheet .given .0 .0) (c .before .before .sheet .given .1) (c .before .before .before .before .«open» .ensures)
+
+enum-known-r : tie.Need-enum-known-r
+enum-known-r c = search needs
+
+same-length : tie.Need-same-length
+same-length c = search needs
+
+returns : tie.Need-returns
+returns c = search needs
+
+same-length-2 : tie.Need-same-length-2
+same-length-2 c = search needs
+
+returns-2 : tie.Need-returns-2
+returns-2 c = edit-refused (now (c .before .before .before .before .before .before .args .payload)) (c .before .r .given .0 .0) (refused-is (now (c .before .before .before .before .before .before .args .payload)) (c .before .before .before .«open» .result) (c .before .r .given .0 .0) (c .before .r .given .1) (c .before .before .before .«open» .ensures)) (c .before .before .before .before .before .before .args .field) (c .before .before .before .before .before .before .args .number)
+
+pub edit-spec : {M : Type 1} → statement M
+edit-spec =
+    tie.close
+    (tie.spec
+    open-requires
+    enum-known-sheet
+    apply-requires
+    enum-known-r
+    same-length
+    returns
+    same-length-2
+    returns-2)

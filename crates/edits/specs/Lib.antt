@@ -1,0 +1,8 @@
+pub mod Fields
+pub mod Record
+pub mod Edit
+pub mod Demand
+pub mod Table
+pub mod Sheet
+pub mod Change
+pub mod Opened

@@ -1,0 +1,98 @@
+// Edits applied to a payload that is open: its sheet is known, and nothing is read again.
+ghost use mathlib.Core.Path.{_≡_};
+ghost use Prim.Native.Nat.{_+_, _*_, _≤_};
+ghost use lib.ListN.{length, take, drop, replicate};
+ghost use lib.Seq.{sets};
+ghost use Rattle.codec.specs.Digits.{numberOf};
+ghost use Rattle.codec.specs.Refusals.{outcomeNumber};
+ghost use Rattle.edits.specs.Edit.{editCommand, EditIs, numbersOf, bytesAfter, editsFrom};
+ghost use Rattle.edits.specs.Opened.{originAt, Opened};
+use crate::sheet::Sheet;
+use crate::table::Origin;
+use codec::reader::NumberRead;
+use codec::reader::Width;
+use codec::refusal::Outcome;
+use codec::refusal::Refusal;
+
+fn origin_at(origin: Origin, near: usize, far: usize) -> usize
+    ensures { λ r. ⌜ r ≡ originAt origin near far ⌝ }
+{
+    match origin {
+        Origin::Start => 0,
+        Origin::Near => near,
+        Origin::Far => far,
+    }
+}
+
+pub(crate) fn apply(payload: &mut [u8], sheet: Sheet, field: u32, number: u32) -> Outcome
+    requires { ⌜ Opened (now payload) sheet ⌝ }
+    ensures { λ r. ⌜ EditIs (editCommand (now (payload .entry)) field number) r (now (payload .entry)) (now (payload .exit)) × Opened (now (payload .exit)) sheet ⌝ }
+{
+    let i = crate::table::find(field, sheet.first, sheet.end);
+    if i == crate::table::COUNT {
+        return Outcome::Refused(Refusal::NoSuchField);
+    }
+    let row = crate::table::row(i);
+    if number < row.low {
+        return Outcome::Refused(Refusal::NumberOutsideRange);
+    }
+    if row.high < number {
+        return Outcome::Refused(Refusal::NumberOutsideRange);
+    }
+    let origin = row.origin;
+    let at = origin_at(origin, sheet.near, sheet.far) + row.place;
+    crate::change::change(payload, at, row.width, row.unit, row.many, number);
+    Outcome::Accepted
+}
+
+fn number_of(o: Outcome) -> u8
+    ensures { λ n. ⌜ n ≡ outcomeNumber o ⌝ }
+{
+    match o {
+        Outcome::Accepted => 0,
+        Outcome::Refused(r) => codec::refusal::number(r),
+    }
+}
+
+// Four bytes, big-endian.
+fn long_at(s: &[u8], at: usize) -> u32
+    requires { ⌜ at + 4 ≤ length (now s) ⌝ }
+    ensures { λ r. ⌜ r ≡ numberOf (take 4 (drop at (now (s .entry)))) ⌝ }
+{
+    match codec::reader::read_number(s, at, Width::Four, 0, 4294967295) {
+        NumberRead::Got(n) => n,
+        NumberRead::Refused(_) => 0,
+    }
+}
+
+// The first `count` edits, in turn.
+pub(crate) fn apply_each(
+    payload: &mut [u8],
+    sheet: Sheet,
+    edits: &[u8],
+    answers: &mut [u8],
+    count: usize,
+)
+    requires { ⌜ Opened (now payload) sheet × ((count * 8 ≤ length (now edits)) × (count ≤ length (now answers))) ⌝ }
+    ensures { λ r. ⌜ (now (payload .exit) ≡ bytesAfter (now (payload .entry)) (editsFrom count (now (edits .entry)))) × (now (answers .exit) ≡ sets (now (answers .entry)) 0 (numbersOf (now (payload .entry)) (editsFrom count (now (edits .entry))))) ⌝ }
+{
+    let mut i: usize = 0;
+    while i < count {
+        let field = long_at(edits, i * 8);
+        let number = long_at(edits, i * 8 + 4);
+        answers[i] = number_of(apply(payload, sheet, field, number));
+        i += 1;
+    }
+}
+
+// The same number to each of the first `count`.
+pub(crate) fn answer_all(answers: &mut [u8], count: usize, number: u8)
+    requires { ⌜ count ≤ length (now answers) ⌝ }
+    ensures { λ r. ⌜ now (answers .exit) ≡ sets (now (answers .entry)) 0 (replicate count number) ⌝ }
+{
+    let mut k: usize = 0;
+    while k < count {
+        answers[k] = number;
+        k += 1;
+    }
+}

@@ -1,0 +1,198 @@
+// What no edit changes of a command: how long its payload is as written, which rows of the table it has, and from where the places count
+// that are not fixed.
+ghost use mathlib.Core.Path.{_≡_};
+ghost use Prim.Native.Nat.{_+_, _≤_};
+ghost use lib.ListN.{length};
+ghost use Rattle.edits.specs.Sheet.{plain as plainSheet, alone as aloneSheet, coloured as colouredSheet, vtxSheet, ledSheet, generalSheet, crossfireSheet, flowSheet, afterText, popupSheet, screenSheet, sheetOf};
+use codec::reader::TextRead;
+use families::crossfire::CrossfireCommand;
+use families::flow_control::FlowControlCommand;
+use families::general::GeneralCommand;
+use families::led::LedCommand;
+use families::payload::CommandPayload;
+use families::screen::ScreenCommand;
+use families::vtx::VtxCommand;
+
+pub(crate) struct Sheet {
+    pub size: usize,
+    pub first: usize,
+    pub end: usize,
+    pub near: usize,
+    pub far: usize,
+}
+
+// All places are fixed.
+fn plain(size: usize, first: usize, end: usize) -> Sheet
+    ensures { λ r. ⌜ r ≡ plainSheet size first end ⌝ }
+{
+    Sheet {
+        size: size,
+        first: first,
+        end: end,
+        near: 0,
+        far: 0,
+    }
+}
+
+// A sub-command alone has no field of its own.
+fn alone() -> Sheet
+    ensures { λ r. ⌜ r ≡ aloneSheet ⌝ }
+{
+    plain(5, 2, 2)
+}
+
+fn of_vtx(c: VtxCommand) -> Sheet
+    ensures { λ r. ⌜ r ≡ vtxSheet c ⌝ }
+{
+    match c {
+        VtxCommand::SetFrequency(_) => plain(7, 3, 4),
+        VtxCommand::EnablePitModeOnPowerUp {
+            pit_mode,
+            pit_mode_control,
+            pit_mode_switch,
+        } => plain(6, 4, 7),
+        VtxCommand::PowerUpFromPitMode => alone(),
+        VtxCommand::SetDynamicPower(_) => plain(6, 7, 8),
+        VtxCommand::SetPower(_) => plain(6, 7, 8),
+    }
+}
+
+// Its only or start colour stands at `near`.
+fn coloured(size: usize, first: usize, end: usize, near: usize) -> Sheet
+    ensures { λ r. ⌜ r ≡ colouredSheet size first end near ⌝ }
+{
+    Sheet {
+        size: size,
+        first: first,
+        end: end,
+        near: near,
+        far: 0,
+    }
+}
+
+fn of_led(c: LedCommand) -> Sheet
+    ensures { λ r. ⌜ r ≡ ledSheet c ⌝ }
+{
+    match c {
+        LedCommand::SetDefault => alone(),
+        LedCommand::OverrideColor(_) => coloured(8, 9, 12, 4),
+        LedCommand::OverridePulse {
+            duration_ms,
+            start,
+            stop,
+        } => coloured(13, 8, 15, 6),
+        LedCommand::OverrideBlink {
+            interval_ms,
+            start,
+            stop,
+        } => coloured(13, 8, 15, 6),
+        LedCommand::OverrideShift { interval_ms, color } => coloured(10, 8, 12, 6),
+    }
+}
+
+fn of_general(c: GeneralCommand) -> Sheet
+    ensures { λ r. ⌜ r ≡ generalSheet c ⌝ }
+{
+    match c {
+        GeneralCommand::SpeedProposal {
+            port_id,
+            proposed_baudrate,
+        } => plain(10, 15, 17),
+        GeneralCommand::SpeedProposalResponse { port_id, accepted } => plain(7, 16, 18),
+    }
+}
+
+fn of_crossfire(c: CrossfireCommand) -> Sheet
+    ensures { λ r. ⌜ r ≡ crossfireSheet c ⌝ }
+{
+    match c {
+        CrossfireCommand::SetReceiverInBindMode => alone(),
+        CrossfireCommand::CancelBindMode => alone(),
+        CrossfireCommand::SetBindId => alone(),
+        CrossfireCommand::ModelSelection(_) => plain(6, 18, 19),
+        CrossfireCommand::CurrentModelSelection => alone(),
+        CrossfireCommand::ReplyCurrentModelSelection(_) => plain(6, 18, 19),
+        CrossfireCommand::EnableRxTelemetry => alone(),
+        CrossfireCommand::DisableRxTelemetry => alone(),
+        CrossfireCommand::FactoryReset => alone(),
+        CrossfireCommand::ResetToFactoryFirmware => alone(),
+    }
+}
+
+fn of_flow(c: FlowControlCommand) -> Sheet
+    ensures { λ r. ⌜ r ≡ flowSheet c ⌝ }
+{
+    match c {
+        FlowControlCommand::Subscribe {
+            frame_type,
+            max_interval_time,
+        } => plain(8, 19, 21),
+        FlowControlCommand::Unsubscribe { frame_type } => plain(6, 19, 20),
+    }
+}
+
+// The place after the text at a place.
+fn after_text(s: &[u8], at: usize) -> usize
+    ensures { λ r. ⌜ (r ≡ afterText (now (s .entry)) at) × (r ≤ length (now (s .entry))) ⌝ }
+{
+    match codec::reader::read_text(s, at, 51) {
+        TextRead::Got { len, next } => next,
+        TextRead::Refused(_) => 0,
+    }
+}
+
+// A popup of n stored bytes: "popup places are found by reading". A selection follows the close flag where bytes remain and the next is
+// no 00.
+fn of_popup(n: usize, s: &[u8]) -> Sheet
+    requires { ⌜ n + 4 ≤ length (now s) ⌝ }
+    ensures { λ r. ⌜ r ≡ popupSheet n (now (s .entry)) ⌝ }
+{
+    let b = after_text(s, after_text(s, 4));
+    let more = b + 2;
+    if more < n + 4 {
+        if s[more] != 0 {
+            return Sheet {
+                size: n + 5,
+                first: 21,
+                end: 27,
+                near: b,
+                far: after_text(s, more),
+            };
+        }
+    }
+    Sheet {
+        size: n + 5,
+        first: 21,
+        end: 23,
+        near: b,
+        far: 0,
+    }
+}
+
+fn of_screen(c: ScreenCommand, n: usize, s: &[u8]) -> Sheet
+    requires { ⌜ n + 4 ≤ length (now s) ⌝ }
+    ensures { λ r. ⌜ r ≡ screenSheet c n (now (s .entry)) ⌝ }
+{
+    match c {
+        ScreenCommand::PopupMessageStart => of_popup(n, s),
+        ScreenCommand::SelectionReturnValue { value, response } => plain(7, 27, 29),
+    }
+}
+
+// Of the command read from the payload s, with n stored bytes.
+pub(crate) fn sheet_of(payload: CommandPayload, n: usize, s: &[u8]) -> Sheet
+    requires { ⌜ n + 4 ≤ length (now s) ⌝ }
+    ensures { λ r. ⌜ r ≡ sheetOf payload n (now (s .entry)) ⌝ }
+{
+    match payload {
+        CommandPayload::Fc(_) => alone(),
+        CommandPayload::Osd(_) => plain(6, 2, 3),
+        CommandPayload::Vtx(c) => of_vtx(c),
+        CommandPayload::Led(c) => of_led(c),
+        CommandPayload::General(c) => of_general(c),
+        CommandPayload::Crossfire(c) => of_crossfire(c),
+        CommandPayload::FlowControl(c) => of_flow(c),
+        CommandPayload::Screen(c) => of_screen(c, n, s),
+        CommandPayload::Ack(_) => plain(n + 8, 29, 32),
+    }
+}
