@@ -1,4 +1,5 @@
 pub mod Answers
+pub mod KindLaws
 pub mod Closed
 pub mod Written
 pub mod Known

@@ -1,4 +1,5 @@
 pub mod Command
 pub mod Reading
 pub mod Writing
+pub mod Kind
 pub mod Closing

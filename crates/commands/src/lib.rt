@@ -2,10 +2,11 @@
 ghost use mathlib.Core.Path.{_≡_};
 ghost use lib.ListN.{length};
 ghost use Rattle.codec.specs.Sheet.{refused};
-ghost use Rattle.codec.specs.Refusals.{refusalNumber};
+ghost use Rattle.codec.specs.Refusals.{refusalNumber, outcomeNumber};
 ghost use Rattle.codec.specs.Told.{Writes};
 ghost use Rattle.commands.specs.Command.{blankCommand};
 ghost use Rattle.commands.specs.Reading.{readCommand, CommandIs};
+ghost use Rattle.commands.specs.Kind.{stopReading};
 ghost use Rattle.commands.specs.Writing.{payloadOf, stopWriting};
 use codec::refusal::Outcome;
 use codec::refusal::Refusal;
@@ -13,6 +14,7 @@ use codec::writer::Written;
 use families::fc::FcCommand;
 use families::payload::CommandPayload;
 
+pub mod kind;
 mod reading;
 mod writing;
 
@@ -55,18 +57,15 @@ impl DirectCommands {
     pub fn from_bytes(payload: &[u8]) -> CommandAnswer
         ensures { λ r. ⌜ CommandIs (readCommand (now (payload .entry))) r ⌝ }
     {
-        let n = payload.len();
-        if n < Self::MIN_PAYLOAD_SIZE {
-            return refused_with(Refusal::InvalidPayloadLength);
+        match judge(payload) {
+            Outcome::Accepted => reading::read_family(
+                payload[0],
+                payload[1],
+                payload[2],
+                &payload[3..payload.len() - 1],
+            ),
+            Outcome::Refused(r) => refused_with(r),
         }
-        if MAX_PAYLOAD_SIZE < n {
-            return refused_with(Refusal::InvalidPayloadLength);
-        }
-        let check = crc::payload_check(payload);
-        if payload[n - 1] != check {
-            return refused_with(Refusal::InvalidPayload);
-        }
-        reading::read_family(payload[0], payload[1], payload[2], &payload[3..n - 1])
     }
 
     // Into the front of the buffer, the rest of which keeps its bytes; refused, all do.
@@ -90,6 +89,24 @@ impl DirectCommands {
         }
         Written::Refused(Refusal::RecordNotMade)
     }
+}
+
+// "Length below 4 or above 60: 1. Check differs: 2."
+pub(crate) fn judge(payload: &[u8]) -> Outcome
+    ensures { λ r. ⌜ outcomeNumber r ≡ stopReading (now (payload .entry)) ⌝ }
+{
+    let n = payload.len();
+    if n < DirectCommands::MIN_PAYLOAD_SIZE {
+        return Outcome::Refused(Refusal::InvalidPayloadLength);
+    }
+    if MAX_PAYLOAD_SIZE < n {
+        return Outcome::Refused(Refusal::InvalidPayloadLength);
+    }
+    let check = crc::payload_check(payload);
+    if payload[n - 1] != check {
+        return Outcome::Refused(Refusal::InvalidPayload);
+    }
+    Outcome::Accepted
 }
 
 // "With each number come the same blank record"

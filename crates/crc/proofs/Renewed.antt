@@ -1,7 +1,7 @@
 -- The check after some bytes of a message changed. Assumes nothing.
 use mathlib.Core.Path.{_≡_, refl, sym, ap, ap₂, _∙_}
 use mathlib.Core.List.{List, [], _∷_, _++_}
-use Prim.Native.Nat.{ℕ, _<_}
+use Prim.Native.Nat.{ℕ, suc, _<_}
 use lib.Bits.{xor-comm, xor-lt, xor-self, xor-zero-r}
 use lib.Dec.{lit<}
 use lib.ListN.{length, replicate}
@@ -59,3 +59,17 @@ check-renewed hd a b post hh ha hb hp e =
     ∙ ap (λ (y : ℕ). f y post) (changed command (f 0 hd) a b (low 0 hd) ha hb e)
     ∙ check-sum command (f (f 0 hd) a) (plus (f 0 a) (f 0 b)) post (low (f 0 hd) a) (xor-lt 8 (f 0 a) (f 0 b) (low 0 a) (low 0 b)) hp
     ∙ ap (λ (y : ℕ). plus y (f (plus (f 0 a) (f 0 b)) (replicate (length post) 0))) (sym (parts a ha))
+
+-- one byte of a message became another: their sum is the start of one byte 00 more
+pub byte-renewed : (a b n : ℕ) → a < 256 → b < 256
+    → checkFrom commandPolynomial (plus (checkFrom commandPolynomial 0 (a ∷ [])) (checkFrom commandPolynomial 0 (b ∷ []))) (replicate n 0)
+    ≡ checkFrom commandPolynomial (plus a b) (replicate (suc n) 0)
+byte-renewed a b n ha hb =
+    let f : ℕ → List ℕ → ℕ = checkFrom commandPolynomial in
+    let own : (c : ℕ) → c < 256 → f 0 (c ∷ []) ≡ steps commandPolynomial 8 c =
+    λ c hc. check-next command 0 c [] (lit< tt) hc tt
+    ∙ ap (λ (y : ℕ). f (steps commandPolynomial 8 y) []) (xor-comm 0 c ∙ xor-zero-r c)
+    ∙ check-none command (steps commandPolynomial 8 c) (steps-low command 8 c hc) in
+    ap (λ (y : ℕ). f y (replicate n 0)) (ap₂ plus (own a ha) (own b hb) ∙ sym (steps-sum command 8 a b ha hb))
+    ∙ sym (check-next command (plus a b) 0 (replicate n 0) (xor-lt 8 a b ha hb) (lit< tt) (bytes-zeros n)
+    ∙ ap (λ (y : ℕ). f (steps commandPolynomial 8 y) (replicate n 0)) (xor-zero-r (plus a b)))

@@ -66,10 +66,10 @@ fn turns(r: u8, n: usize) -> u8
 pub fn followed(check: u8, n: usize) -> u8
     ensures { λ r. ⌜ r ≡ checkFrom commandPolynomial check (replicate n 0) ⌝ }
 {
-    if 0 < n {
+    if 7 < n {
         turns(check, (n - 1) % 7 + 1)
     } else {
-        check
+        turns(check, n)
     }
 }
 

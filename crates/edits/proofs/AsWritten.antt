@@ -5,29 +5,30 @@ use mathlib.Core.List.{List, [], _∷_, _++_, append-assoc}
 use mathlib.Core.Logic.{_⊎_, inl, inr}
 use mathlib.Core.Path.{_≡_, refl, ap, sym, subst, _∙_}
 use native.Mathlib.Omega.{arith}
-use lib.ListN.{length, take, getD, length-append}
+use lib.ListN.{length, take, getD, length-append, List·getD-eq-default}
 use lib.Seq.{drop-at, getD-at}
 use lib.Dec.{ltb, leb, eqb}
-use borrow.Author.Tests.{leb-true, eqb-false}
+use borrow.Author.Tests.{ltb-true, ltb-false, leb-true, eqb-true, eqb-false, lt-ltb, le-ltb}
 use Rattle.crc.specs.Check.{commandPolynomial, checkOf, Bytes}
 use Rattle.codec.specs.Pick.{pick}
 use Rattle.codec.specs.Same.{same}
-use Rattle.codec.specs.Sheet.{text, Answer, got, refused, byte}
+use Rattle.codec.specs.Sheet.{text, Answer, got, refused, andThen, byte}
 use Rattle.codec.specs.Reading.{readItem}
 use Rattle.codec.specs.Writing.{nonzero, okItem, okItems, writeItems}
 use Rattle.codec.specs.Edit.{placeOf}
-use Rattle.codec.specs.Refusals.{numberIn}
-use Rattle.codec.specs.declared.refusal.Outcome.the-variants.{Accepted, Refused as RefusedRead}
+use Rattle.codec.specs.Refusals.{numberIn, refusalNumber}
 use Rattle.codec.specs.declared.refusal.Refusal.{Refusal}
 use Rattle.codec.specs.declared.refusal.Refusal.the-variants.{NotAsWritten}
 use Rattle.codec.proofs.Back.{both, passed, item-back}
 use Rattle.codec.proofs.Joins.{Each, none, one, each-of}
 use Rattle.codec.proofs.Same.{same-true}
+use Rattle.codec.proofs.There.{and-got}
 use Rattle.families.specs.Sheets.{label}
 use Rattle.families.specs.Popup.{Popup, popup, popupItems, chosenItems, valuesItems, alone, okPopup, writePopup}
 use Rattle.families.specs.Body.{popupIn, startItems, startValues, bodyItems, bodyValues}
 use Rattle.families.specs.Payload.{familyId}
 use Rattle.families.specs.declared.fc.FcCommand.the-variants.{ForceDisarm, ScaleChannel}
+use Rattle.families.specs.declared.vtx.VtxCommand.{VtxCommand}
 use Rattle.families.specs.declared.vtx.VtxCommand.the-variants.{SetFrequency, EnablePitModeOnPowerUp, PowerUpFromPitMode, SetDynamicPower, SetPower}
 use Rattle.families.specs.declared.led.LedCommand.the-variants.{SetDefault, OverrideColor, OverridePulse, OverrideBlink, OverrideShift}
 use Rattle.families.specs.declared.general.GeneralCommand.the-variants.{SpeedProposal, SpeedProposalResponse}
@@ -39,18 +40,19 @@ use Rattle.families.specs.declared.screen.ScreenCommand.the-variants.{PopupMess
 use Rattle.families.specs.declared.payload.CommandPayload.{CommandPayload}
 use Rattle.families.specs.declared.payload.CommandPayload.the-variants.{Fc, Osd, Vtx, Led, General, Crossfire, FlowControl, Screen, Ack}
 use Rattle.commands.specs.Command.{storedIn, madeBeside}
-use Rattle.commands.specs.Reading.{readCommand, CommandIs}
+use Rattle.commands.specs.Reading.{readCommand}
+use Rattle.commands.specs.Kind.{kind, kindOf, readKind, toldKind}
 use Rattle.commands.specs.Writing.{payloadOf}
 use Rattle.commands.specs.declared.DirectCommands.{DirectCommands}
-use Rattle.commands.specs.declared.CommandAnswer.{CommandAnswer}
-use Rattle.commands.proofs.Known.{read-some, accepted-is, refused-is}
+use Rattle.commands.specs.declared.kind.KindRead.{KindRead}
+use Rattle.commands.specs.declared.kind.KindRead.the-variants.{Got as GotKind, Refused as RefusedKind}
 use Rattle.commands.proofs.Forth.{read-writable}
 use Rattle.commands.proofs.Promised.{Sound, opened, sound-laid, PitClear, written-clear, read-sound, as-written}
 use Rattle.edits.specs.Record.{subOf, storedWith, popupWith}
 use Rattle.edits.specs.Edit.{openCommand}
 use Rattle.edits.specs.Table.{nearItem, farItem}
-use Rattle.edits.specs.Sheet.{placeAfter, afterText, shown, chosen, popupFrom, popupSheet, sheetOf}
-use Rattle.edits.specs.Opened.{ServesAs, Serves, hasPit, Opens, OpensRead}
+use Rattle.edits.specs.Sheet.{vtxSheet, placeAfter, afterText, shown, chosen, popupFrom, popupSheet, sheetOf}
+use Rattle.edits.specs.Opened.{ServesAs, Serves, vtxPit, hasPit, fitting, unset, Opens, OpensRead}
 use Rattle.edits.specs.declared.sheet.Sheet.{Sheet}
 use Rattle.edits.specs.declared.opening.Opening.{Opening}
 use Rattle.edits.specs.declared.opening.Opening.the-variants.{Got, Refused}
@@ -339,84 +341,137 @@ differs p c h g = rw h (by (same (payloadOf c) p) refl)
     by false e = refl
 
 -- a command has a pit byte, or none
-abbrev Pit : CommandPayload → ℕ → List ℕ → Type 0
-Pit q n p = (hasPit q ≡ true) × ((sheetOf q n p .size ≡ 6) × ((PitClear q p → getD p 4 0 < 128) × (getD p 4 0 < 128 → PitClear q p)))
+abbrev Pit : CommandPayload → List ℕ → Type 0
+Pit q p = (hasPit q ≡ true) × ((PitClear q p → getD p 4 0 < 128) × (getD p 4 0 < 128 → PitClear q p))
 
-pit-or : (q : CommandPayload) (n : ℕ) (p : List ℕ) → ((hasPit q ≡ false) × PitClear q p) ⊎ Pit q n p
-pit-or (Fc c) n p = inl (refl, tt)
-pit-or (Osd c) n p = inl (refl, tt)
-pit-or (Vtx (SetFrequency f)) n p = inl (refl, tt)
-pit-or (Vtx (EnablePitModeOnPowerUp m k w)) n p = inr (refl, (refl, (λ h. h, λ h. h)))
-pit-or (Vtx PowerUpFromPitMode) n p = inl (refl, tt)
-pit-or (Vtx (SetDynamicPower x)) n p = inl (refl, tt)
-pit-or (Vtx (SetPower x)) n p = inl (refl, tt)
-pit-or (Led c) n p = inl (refl, tt)
-pit-or (General c) n p = inl (refl, tt)
-pit-or (Crossfire c) n p = inl (refl, tt)
-pit-or (FlowControl c) n p = inl (refl, tt)
-pit-or (Screen c) n p = inl (refl, tt)
-pit-or (Ack a) n p = inl (refl, tt)
+pit-or : (q : CommandPayload) (p : List ℕ) → ((hasPit q ≡ false) × PitClear q p) ⊎ Pit q p
+pit-or (Fc c) p = inl (refl, tt)
+pit-or (Osd c) p = inl (refl, tt)
+pit-or (Vtx (SetFrequency f)) p = inl (refl, tt)
+pit-or (Vtx (EnablePitModeOnPowerUp m k w)) p = inr (refl, (λ h. h, λ h. h))
+pit-or (Vtx PowerUpFromPitMode) p = inl (refl, tt)
+pit-or (Vtx (SetDynamicPower x)) p = inl (refl, tt)
+pit-or (Vtx (SetPower x)) p = inl (refl, tt)
+pit-or (Led c) p = inl (refl, tt)
+pit-or (General c) p = inl (refl, tt)
+pit-or (Crossfire c) p = inl (refl, tt)
+pit-or (FlowControl c) p = inl (refl, tt)
+pit-or (Screen c) p = inl (refl, tt)
+pit-or (Ack a) p = inl (refl, tt)
 
-pit-of : (q : CommandPayload) (n : ℕ) (p : List ℕ) → hasPit q ≡ true → Pit q n p
-pit-of q n p t = by (pit-or q n p)
+pit-of : (q : CommandPayload) (p : List ℕ) → hasPit q ≡ true → Pit q p
+pit-of q p t = by (pit-or q p)
   where
-    by : ((hasPit q ≡ false) × PitClear q p) ⊎ Pit q n p → Pit q n p
+    by : ((hasPit q ≡ false) × PitClear q p) ⊎ Pit q p → Pit q p
     by (inl x) = let g : true ≡ false = sym t ∙ x .0 in let z : _≡_ {A = ℕ} 0 1 = cc in absurd (omega arith)
     by (inr x) = x
 
-pit-clear : (q : CommandPayload) (n : ℕ) (p : List ℕ) → (hasPit q ≡ false) ⊎ (getD p 4 0 < 128) → PitClear q p
-pit-clear q n p h = by (pit-or q n p) h
+pit-clear : (q : CommandPayload) (p : List ℕ) → (hasPit q ≡ false) ⊎ (getD p 4 0 < 128) → PitClear q p
+pit-clear q p h = by (pit-or q p) h
   where
-    by : ((hasPit q ≡ false) × PitClear q p) ⊎ Pit q n p → (hasPit q ≡ false) ⊎ (getD p 4 0 < 128) → PitClear q p
+    by : ((hasPit q ≡ false) × PitClear q p) ⊎ Pit q p → (hasPit q ≡ false) ⊎ (getD p 4 0 < 128) → PitClear q p
     by (inl x) h = x .1
     by (inr x) (inl e) = let g : true ≡ false = sym (x .0) ∙ e in let z : _≡_ {A = ℕ} 0 1 = cc in absurd (omega arith)
-    by (inr x) (inr l) = x .1 .1 .1 l
+    by (inr x) (inr l) = x .1 .1 l
 
-module _ (q : CommandPayload) (n : ℕ) (p : List ℕ) (s : Sheet) (d : s ≡ sheetOf q n p) where
-  -- the pit byte is there
-  pub pit-there : hasPit q ≡ true → length p ≡ s .size → 4 < length p
-  pit-there t l = let k : s .size ≡ 6 = ap (λ (r : Sheet). r .size) d ∙ pit-of q n p t .1 .0 in omega arith
+module _ (q : CommandPayload) (n : ℕ) (p : List ℕ) (s : Sheet) (d : s ≡ sheetOf q n p) (y : Bytes p) where
+  size-read : (c : DirectCommands) → c .payload ≡ q → c .len ≡ n → readCommand p ≡ got c → s .size ≡ length (payloadOf c)
+  size-read c e f h =
+      let u : s ≡ sheetOf (c .payload) (c .len) p = rw (e, f) d in
+      ap (λ (r : Sheet). r .size) u ∙ size-is c (read-sound p c y h) p
 
-  module _ (y : Bytes p) where
-    size-read : (c : DirectCommands) → c .payload ≡ q → c .len ≡ n → readCommand p ≡ got c → s .size ≡ length (payloadOf c)
-    size-read c e f h =
-        let u : s ≡ sheetOf (c .payload) (c .len) p = rw (e, f) d in
-        ap (λ (r : Sheet). r .size) u ∙ size-is c (read-sound p c y h) p
+  -- of another length
+  judged-longer : (length p ≡ s .size → ⊥) → OpensRead q n p (Refused NotAsWritten)
+  judged-longer g c e f h = differs p c h (λ i. g (ap length i ∙ sym (size-read c e f h)))
 
-    -- of another length
-    pub judged-longer : (length p ≡ s .size → ⊥) → OpensRead q n p (Refused NotAsWritten)
-    judged-longer g c e f h = differs p c h (λ i. g (ap length i ∙ sym (size-read c e f h)))
+  -- bit 7 of a pit byte set
+  judged-set : hasPit q ≡ true → 127 < getD p 4 0 → OpensRead q n p (Refused NotAsWritten)
+  judged-set t g c e f h =
+      let k : PitClear q (payloadOf c) = subst (λ (r : CommandPayload). PitClear r (payloadOf c)) e (written-clear c (read-sound p c y h)) in
+      differs p c h (λ i. let l : getD p 4 0 < 128 = pit-of q p t .1 .0 (subst (PitClear q) (sym i) k) in omega arith)
 
-    -- bit 7 of a pit byte set
-    pub judged-set : hasPit q ≡ true → 127 < getD p 4 0 → OpensRead q n p (Refused NotAsWritten)
-    judged-set t g c e f h =
-        let k : PitClear q (payloadOf c) = subst (λ (r : CommandPayload). PitClear r (payloadOf c)) e (written-clear c (read-sound p c y h)) in
-        differs p c h (λ i. let l : getD p 4 0 < 128 = pit-of q n p t .1 .1 .0 (subst (PitClear q) (sym i) k) in omega arith)
+  -- as written
+  judged-good : length p ≡ s .size → (hasPit q ≡ false) ⊎ (getD p 4 0 < 128) → OpensRead q n p (Got s)
+  judged-good l g c e f h =
+      let z = read-sound p c y h in
+      let u : sheetOf (c .payload) (c .len) p ≡ s = rw (e, f) (sym d) in
+      let k : PitClear (c .payload) p = rw e (pit-clear q p g) in
+      let w : p ≡ payloadOf c = as-written p c y h (l ∙ size-read c e f h) k in
+      (c, (z, (w, subst (λ (r : Sheet). Serves c r) u (serves c z p w))))
 
-    -- as written
-    pub judged-good : length p ≡ s .size → (hasPit q ≡ false) ⊎ (getD p 4 0 < 128) → OpensRead q n p (Got s)
-    judged-good l g c e f h =
-        let z = read-sound p c y h in
-        let u : sheetOf (c .payload) (c .len) p ≡ s = rw (e, f) (sym d) in
-        let k : PitClear (c .payload) p = rw e (pit-clear q n p g) in
-        let w : p ≡ payloadOf c = as-written p c y h (l ∙ size-read c e f h) k in
-        (c, (z, (w, subst (λ (r : Sheet). Serves c r) u (serves c z p w))))
+  -- the length decides where no such bit is set
+  judged-fits : (hasPit q ≡ false) ⊎ (getD p 4 0 < 128) → OpensRead q n p (fitting s (length p))
+  judged-fits g = by (eqb (length p) (s .size)) refl
+    where
+      by : (t : Bool) → eqb (length p) (s .size) ≡ t → OpensRead q n p (pick t (Got s) (Refused NotAsWritten))
+      by true e = judged-good (eqb-true (length p) (s .size) e) g
+      by false e = judged-longer (eqb-false (length p) (s .size) e)
+
+-- the code's answer, of a command that has no pit byte
+pub judged : (q k : CommandPayload) (n : ℕ) (p : List ℕ) (s : Sheet) (r : Opening) → q ≡ k → s ≡ sheetOf k n p → hasPit k ≡ false → Bytes p
+    → r ≡ fitting s (length p) → OpensRead q n p r
+judged q k n p s r e d f y g = rw (e, g) (judged-fits k n p s d y (inl f))
+
+-- ---- of a VTX command: bit 7 of a pit byte is set, or not
+pub unset-set : (c : VtxCommand) (p : List ℕ) (o : Opening) → vtxPit c ≡ true → 4 < length p → 127 < getD p 4 0 → Refused NotAsWritten ≡ unset c p o
+unset-set c p o h i j = rw (h, lt-ltb 4 (length p) i, lt-ltb 127 (getD p 4 0) j)
+
+pub unset-clear : (c : VtxCommand) (p : List ℕ) (o : Opening) → (getD p 4 0 ≤ 127) ⊎ ((length p ≤ 4) ⊎ (vtxPit c ≡ false)) → o ≡ unset c p o
+unset-clear c p o (inl h) = rw (le-ltb 127 (getD p 4 0) h) (by (vtxPit c) (ltb 4 (length p)))
+  where
+    by : (t u : Bool) → o ≡ pick t (pick u o o) o
+    by true true = refl
+    by true false = refl
+    by false u = refl
+unset-clear c p o (inr (inl h)) = rw (le-ltb 4 (length p) h) (by (vtxPit c))
+  where
+    by : (t : Bool) → o ≡ pick t o o
+    by true = refl
+    by false = refl
+unset-clear c p o (inr (inr h)) = rw h
+
+pub judged-vtx : (q : CommandPayload) (c : VtxCommand) (n : ℕ) (p : List ℕ) (r : Opening) → q ≡ Vtx c → Bytes p
+    → r ≡ unset c p (fitting (vtxSheet c) (length p)) → OpensRead q n p r
+judged-vtx q c n p r e y g = rw (e, g) (by (vtxPit c) (ltb 4 (length p)) (ltb 127 (getD p 4 0)) refl refl refl)
+  where
+    low : (hasPit (Vtx c) ≡ false) ⊎ (getD p 4 0 < 128) → OpensRead (Vtx c) n p (fitting (vtxSheet c) (length p))
+    low = judged-fits (Vtx c) n p (vtxSheet c) refl y
+
+    by : (t u v : Bool) → vtxPit c ≡ t → ltb 4 (length p) ≡ u → ltb 127 (getD p 4 0) ≡ v
+        → OpensRead (Vtx c) n p (pick t (pick u (pick v (Refused NotAsWritten) (fitting (vtxSheet c) (length p))) (fitting (vtxSheet c) (length p))) (fitting (vtxSheet c) (length p)))
+    by true true true h i j = judged-set (Vtx c) n p (vtxSheet c) refl y h (ltb-true 127 (getD p 4 0) j)
+    by true true false h i j = low (inr (let l = ltb-false 127 (getD p 4 0) j in omega (arith, l)))
+    by true false v h i j = low (inr (let l = List·getD-eq-default p 0 (ltb-false 4 (length p) i) in omega (arith, l)))
+    by false u v h i j = low (inl h)
 
 -- ---- reading, then judging
--- the stored bytes have room in what was read
-pub read-room : (p : List ℕ) (x : CommandAnswer) → Bytes p → CommandIs (readCommand p) x → x .outcome ≡ Accepted → x .command .len + 4 ≤ length p
-read-room p x y h e =
-    let g = accepted-is (readCommand p) x (read-some p) h e in
-    let c = x .command in
-    let r = stored-room c (read-sound p c y g) in
-    omega (arith, r, read-writable p c y g .1 .0)
+-- the command whose kind was told
+read-as : (p : List ℕ) (x : KindRead) (q : CommandPayload) (n : ℕ) → toldKind x ≡ readKind p → x ≡ GotKind q n
+    → (c : DirectCommands) × ((c .payload ≡ q) × ((c .len ≡ n) × (readCommand p ≡ got c)))
+read-as p x q n h e =
+    let t : got (kind q n) ≡ readKind p = rw e at h in
+    let g = and-got (readCommand p) (λ c. got (kindOf c)) (kind q n) (sym t) in
+    let c = g .0 in
+    let k : got (kind (c .payload) (c .len)) ≡ got (kind q n) = g .1 .1 in
+    (c, (cc, (cc, g .1 .0)))
 
-pub opens-judged : (p : List ℕ) (x : CommandAnswer) (r : Opening) → CommandIs (readCommand p) x → x .outcome ≡ Accepted
-    → OpensRead (x .command .payload) (x .command .len) p r → Opens p r
-opens-judged p x r h e j = j (x .command) refl refl (accepted-is (readCommand p) x (read-some p) h e)
+-- the stored bytes have room in what was read
+pub read-room : (p : List ℕ) (x : KindRead) (q : CommandPayload) (n : ℕ) → Bytes p → toldKind x ≡ readKind p → x ≡ GotKind q n → n + 4 ≤ length p
+read-room p x q n y h e =
+    let g = read-as p x q n h e in
+    let c = g .0 in
+    let r = stored-room c (read-sound p c y (g .1 .1 .1)) in
+    omega (arith, r, read-writable p c y (g .1 .1 .1) .1 .0, g .1 .1 .0)
+
+pub opens-judged : (p : List ℕ) (x : KindRead) (q : CommandPayload) (n : ℕ) (r : Opening) → toldKind x ≡ readKind p → x ≡ GotKind q n → OpensRead q n p r
+    → Opens p r
+opens-judged p x q n r h e j = let g = read-as p x q n h e in j (g .0) (g .1 .0) (g .1 .1 .0) (g .1 .1 .1)
 
 -- the reader's refusal
-pub opens-refused : (p : List ℕ) (x : CommandAnswer) (why : Refusal) → CommandIs (readCommand p) x → x .outcome ≡ RefusedRead why → Opens p (Refused why)
-opens-refused p x why h e =
-    let g = refused-is (readCommand p) x why h e in
-    rw (g .1)
+pub opens-refused : (p : List ℕ) (x : KindRead) (why : Refusal) → toldKind x ≡ readKind p → x ≡ RefusedKind why → Opens p (Refused why)
+opens-refused p x why h e = by (readCommand p) (rw e at h)
+  where
+    by : (a : Answer DirectCommands) → refused (refusalNumber why) 0 ≡ andThen a (λ c. got (kindOf c))
+        → numberIn (andThen a (λ c. pick (same (payloadOf c) p) (got c) (refused 6 0))) ≡ refusalNumber why
+    by (got c) g = let z : _≡_ {A = ℕ} 0 1 = cc in absurd (omega arith)
+    by (refused k l) g = let u : refusalNumber why ≡ k = cc in sym u

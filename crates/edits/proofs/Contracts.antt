@@ -10,7 +10,6 @@ use contract.Lifetimes.{Lfts}
 use borrow.Fn.Kinds.{Dens, resT, endedOf}
 use denote.Ref.{now}
 use denote.Triple.Clauses.{AtExit}
-use Rattle.codec.specs.Refusals.{outcomeNumber}
 use Rattle.commands.specs.Writing.{payloadOf, stopWriting}
 use Rattle.commands.specs.declared.DirectCommands.{DirectCommands}
 use Rattle.commands.proofs.Back.{Typed}
@@ -25,7 +24,7 @@ pub list-demanded : (κs : Lfts 3) (a : Dens κs list-kinds.ps) (x : resT list-k
     → list.Post κs a x s
     → (c : DirectCommands) (room : ℕ) → c .«dst_addr» < 256 → c .«src_addr» < 256 → Typed c → stopWriting c room ≡ 0 → now (a .0) ≡ payloadOf c
     → stopList (length (now (a .1 .0))) (length (now (a .1 .1 .0))) ≡ 0
-    → (outcomeNumber x ≡ 0)
+    → (x ≡ 0)
     × ((now (s .0) ≡ payloadOf (withEdits c (editsIn (now (a .1 .0)))))
     × (now (s .1 .1 .0) ≡ sets (now (a .1 .1 .0)) 0 (numbersFor c (editsIn (now (a .1 .0))))))
 list-demanded κs a x s h c room d r t w e k =

@@ -7,7 +7,6 @@ use native.Mathlib.Omega.{arith}
 use lib.ListN.{take, getD}
 use contract.Lifetimes.{Lfts}
 use denote.Ref.{RefT}
-use Rattle.codec.specs.declared.refusal.Outcome.{Outcome}
 use Rattle.commands.specs.Writing.{payloadOf}
 use Rattle.commands.proofs.Examples.{frequency, m3}
 use Rattle.edits.specs.Edit.{Edit, edit, editsIn, bytesAfter}
@@ -24,10 +23,10 @@ lent s = record { ptr = (0, 0); name = 0; now = s }
 -- an editor: its answer to a payload, a field number and a number, and the bytes that it leaves. A list editor: its answer to a payload, a
 -- list of edits and the answer bytes, and what it leaves of the payload and of the answer bytes
 abbrev pub Editor : Type 0
-Editor = List ℕ → ℕ → ℕ → Outcome × List ℕ
+Editor = List ℕ → ℕ → ℕ → ℕ × List ℕ
 
 abbrev pub ListEditor : Type 0
-ListEditor = List ℕ → List ℕ → List ℕ → Outcome × (List ℕ × List ℕ)
+ListEditor = List ℕ → List ℕ → List ℕ → ℕ × (List ℕ × List ℕ)
 
 -- on M3: field 20 to 5000, then to 5800 again
 abbrev there : List ℕ

@@ -26,9 +26,8 @@ use Rattle.families.specs.declared.payload.CommandPayload.{CommandPayload}
 use Rattle.families.specs.declared.payload.CommandPayload.the-variants.{Fc, Osd, Vtx, Led, General, Crossfire, FlowControl, Screen, Ack}
 use Rattle.edits.specs.Fields.{Listed, everywhere, listed, fields, spotIn}
 use Rattle.edits.specs.Record.{subOf}
-use Rattle.edits.specs.Table.{sheetRow, straight, searched, rowsOf}
+use Rattle.edits.specs.Table.{Entry, sheetRow, straight, searched, rowsOf}
 use Rattle.edits.specs.Sheet.{sheetOf}
-use Rattle.edits.specs.declared.table.FieldRow.{FieldRow}
 
 -- ---- a number among numbers
 abbrev among : ℕ → List ℕ → Bool
@@ -68,7 +67,7 @@ numbersIn [] = []
 numbersIn (everywhere k i ∷ l) = k ∷ numbersIn l
 numbersIn (listed k id at j ∷ l) = k ∷ numbersIn l
 
-abbrev rowNumbers : List FieldRow → List ℕ
+abbrev rowNumbers : List Entry → List ℕ
 rowNumbers [] = []
 rowNumbers (r ∷ rs) = r .number ∷ rowNumbers rs
 
@@ -81,7 +80,7 @@ unlisted [] id sub f n = refl
 unlisted (everywhere k i ∷ l) id sub f n = let p = first-not (eqb f k) (among f (numbersIn l)) n in rw (p .0) (unlisted l id sub f (p .1))
 unlisted (listed k fam at j ∷ l) id sub f n = let p = first-not (eqb f k) (among f (numbersIn l)) n in rw (p .0) (unlisted l id sub f (p .1))
 
-unfound : (rs : List FieldRow) (f : ℕ) → among f (rowNumbers rs) ≡ false → searched rs f ≡ refused 7 0
+unfound : (rs : List Entry) (f : ℕ) → among f (rowNumbers rs) ≡ false → searched rs f ≡ refused 7 0
 unfound [] f n = refl
 unfound (r ∷ rs) f n = let p = first-not (eqb f (r .number)) (among f (rowNumbers rs)) n in rw (p .0) (unfound rs f (p .1))
 

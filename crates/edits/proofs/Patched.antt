@@ -1,16 +1,17 @@
 -- A number put into its field where it stands, and the check renewed: what the code reads and stores. Assumes nothing.
-use Prim.Native.Nat.{ℕ, _+_, _-_, _*_, _/_, _%_, _^_, _<_, _≤_}
+use Prim.Native.Nat.{ℕ, suc, _+_, _-_, _*_, _/_, _%_, _^_, _<_, _≤_}
 use mathlib.Core.List.{List, [], _∷_}
-use mathlib.Core.Path.{_≡_, refl, _∙_}
+use mathlib.Core.Path.{_≡_, refl, sym, ap, _∙_}
 use native.Mathlib.Omega.{arith}
 use native.Mathlib.Nat.{le-trans, lt-of-lt-of-le, mod-le, mul-le-mul-right, div-mul-le-self}
 use lib.ListN.{length, take, drop, getD, set, replicate, length-drop}
-use lib.Seq.{length-take-le}
+use lib.Seq.{lt-length-set, length-take-le, drop-cons, getD-set-same}
 use lib.Pow.{pow-mono}
 use borrow.Author.Tests.{le-ltb}
 use Rattle.crc.specs.Polynomial.{plus}
 use Rattle.crc.specs.Check.{commandPolynomial, checkFrom, Bytes}
 use Rattle.crc.proofs.Laws.{bytes-take}
+use Rattle.crc.proofs.Renewed.{byte-renewed}
 use Rattle.codec.specs.Digits.{numberOf, bytesOf}
 use Rattle.codec.specs.Sheet.{got, number}
 use Rattle.codec.specs.Reading.{readItem}
@@ -69,3 +70,34 @@ check-put s t at w u m n a b f h p x y z =
     let c = bytesOf w (replaced u m (numberOf (held s at w)) n) in
     let g : getD (patched s at w u m n) (length s - 1) 0 ≡ getD s (length s - 1) 0 = sets-behind s c at (length s - 1) (rw length-bytesOf (omega arith)) in
     rw (z, x, y, d, p, g)
+
+-- ---- one byte
+byte-held : (s : List ℕ) (at : ℕ) → at < length s → held s at 1 ≡ getD s at 0 ∷ []
+byte-held s at h = rw (drop-cons s at 0 h)
+
+-- it is its own number
+pub byte-number : (s : List ℕ) (at : ℕ) → at < length s → numberOf (held s at 1) ≡ getD s at 0
+byte-number s at h = rw (byte-held s at h) (omega arith)
+
+byte-put : (s : List ℕ) (at u m n k : ℕ) → at < length s → k ≡ replaced u m (getD s at 0) n → set s at (k % 256) ≡ patched s at 1 u m n
+byte-put s at u m n k h e =
+    let d : k / 1 ≡ k = omega arith in
+    rw (byte-number s at h, ← e, d)
+
+-- the check of the difference
+pub check-byte : (s : List ℕ) (at u m n k f : ℕ) → getD s at 0 < 256 → at + 1 < length s → k ≡ replaced u m (getD s at 0) n
+    → f ≡ checkFrom commandPolynomial (plus (getD s at 0) (k % 256)) (replicate (length s - 1 - at) 0)
+    → set (set s at (k % 256)) (length s - 1) (plus (getD (set s at (k % 256)) (length s - 1) 0) f) ≡ changed s at 1 u m n
+check-byte s at u m n k f y h e z =
+    let x = getD s at 0 in
+    let b = k % 256 in
+    let t = set s at b in
+    let l : at < length s = omega arith in
+    let own : List ℕ → ℕ = checkFrom commandPolynomial 0 in
+    let i : held s at 1 ≡ x ∷ [] = byte-held s at l in
+    let j : held t at 1 ≡ b ∷ [] = byte-held t at (lt-length-set s at b l) ∙ ap (λ (c : ℕ). c ∷ []) (getD-set-same s at b 0 l) in
+    let o : at + 1 - at ≡ 1 = omega arith in
+    let g : length s - 1 - at ≡ suc (length s - 1 - (at + 1)) = omega arith in
+    check-put s t at 1 u m n (own (x ∷ [])) (own (b ∷ [])) f h (byte-put s at u m n k l e)
+    (rw (o, i)) (rw (o, j))
+    (z ∙ (rw g (sym (byte-renewed x b (length s - 1 - (at + 1)) y (omega arith)))))

@@ -20,11 +20,8 @@ use Rattle.commands.proofs.Promised.{Sound}
 use Rattle.edits.specs.Fields.{Spot, spot}
 use Rattle.edits.specs.Record.{subOf, itemsIn, valuesIn}
 use Rattle.edits.specs.Edit.{fieldOf, fieldAt, spotOf, withField, setField}
-use Rattle.edits.specs.Table.{rowOf, itemRow, sizes, noTexts, straightTo, straightBy, originOf, anchor, placedRow, sheetRow, searched, rowsOf}
-use Rattle.edits.specs.Opened.{originAt, Serves}
-use Rattle.edits.specs.declared.table.Origin.{Origin}
-use Rattle.edits.specs.declared.table.Origin.the-variants.{Start, Near, Far}
-use Rattle.edits.specs.declared.table.FieldRow.{FieldRow}
+use Rattle.edits.specs.Table.{Origin, Start, Near, Far, Entry, originAt, rowOf, itemRow, sizes, noTexts, straightTo, straightBy, originOf, anchor, placedRow, sheetRow, searched, rowsOf}
+use Rattle.edits.specs.Opened.{Serves}
 use Rattle.edits.specs.declared.sheet.Sheet.{Sheet}
 use Rattle.edits.proofs.With.{items-ok, field-of}
 use Rattle.edits.proofs.Step.{packed-there}
@@ -52,7 +49,7 @@ place-from (u ∷ is) (v ∷ vs) (suc a) (suc i) e h l t =
     rw k (omega (arith, g))
 
 -- ---- a row that is found
-pub record Found (c : DirectCommands) (s : Sheet) (f : ℕ) (r : FieldRow) : Type 0 where
+pub record Found (c : DirectCommands) (s : Sheet) (f : ℕ) (r : Entry) : Type 0 where
   pub item : ℕ
   pub index : ℕ
   pub wide : ℕ
@@ -78,11 +75,11 @@ origin-place c s v Start = refl
 origin-place c s v Near = v .1 .1 .1 .0
 origin-place c s v Far = v .1 .1 .1 .1
 
-straight-is : (is : List Item) (a i j : ℕ) (x : Answer Spot) (y : Answer FieldRow) (r : FieldRow) → x ≡ got (spot i j) → y ≡ got r → straightBy is a x y ≡ true → straightTo is a i ≡ true
+straight-is : (is : List Item) (a i j : ℕ) (x : Answer Spot) (y : Answer Entry) (r : Entry) → x ≡ got (spot i j) → y ≡ got r → straightBy is a x y ≡ true → straightTo is a i ≡ true
 straight-is is a i j x y r e f h = rw (e, f) at h
 
 module _ (c : DirectCommands) (s : Sheet) (f : ℕ) (z : Sound c) (v : Serves c s) where
-  found-at : (r : FieldRow) (i j : ℕ) (t : Item) → spotOf c f ≡ got (spot i j) → sheetRow (familyId (c .payload)) (subOf (c .payload)) (itemsIn c) f ≡ got r
+  found-at : (r : Entry) (i j : ℕ) (t : Item) → spotOf c f ≡ got (spot i j) → sheetRow (familyId (c .payload)) (subOf (c .payload)) (itemsIn c) f ≡ got r
       → getD (itemsIn c) i (text 0 0) ≡ t → itemRow f (originOf f) (sizes (take (i - start c f) (drop (start c f) (itemsIn c)))) t j ≡ got r → Found c s f r
   found-at r i j (text least most) e h k g = let x : _≡_ {A = ℕ} 0 1 = cc in absurd (omega arith)
   found-at r i j (packed w fs) e h k g =
@@ -104,7 +101,7 @@ module _ (c : DirectCommands) (s : Sheet) (f : ℕ) (z : Sound c) (v : Serves c 
           let n : r ≡ rowOf f (originOf f) (sizes (take (i - start c f) (drop (start c f) (itemsIn c)))) w (below (widths fs) j) (field b lo hi) = sym (cc) in
           record { item = i; index = j; wide = w; all = fs; bits = b; low = lo; high = hi; stands = e; holds = k; within = l; this = d; told = n; placed = p }
 
-  pub found : (r : FieldRow) → searched (rowsOf (s .first) (s .end)) f ≡ got r → Found c s f r
+  pub found : (r : Entry) → searched (rowsOf (s .first) (s .end)) f ≡ got r → Found c s f r
   found r h =
       let y = v .0 f ∙ h in
       let g = and-got (spotOf c f) (λ x. placedRow f (originOf f) (itemsIn c) (start c f) x) r y in
@@ -113,14 +110,14 @@ module _ (c : DirectCommands) (s : Sheet) (f : ℕ) (z : Sound c) (v : Serves c 
       by : (x : Spot) → spotOf c f ≡ got x → sheetRow (familyId (c .payload)) (subOf (c .payload)) (itemsIn c) f ≡ got r → placedRow f (originOf f) (itemsIn c) (start c f) x ≡ got r → Found c s f r
       by (spot i j) e y g = found-at r i j (getD (itemsIn c) i (text 0 0)) e y refl g
 
-  pub field-found : (r : FieldRow) (x : Found c s f r) → fieldAt c (spot (x .item) (x .index)) ≡ got (field (x .bits) (x .low) (x .high))
+  pub field-found : (r : Entry) (x : Found c s f r) → fieldAt c (spot (x .item) (x .index)) ≡ got (field (x .bits) (x .low) (x .high))
   field-found r x =
       ap (λ (t : Item). fieldOf t (x .index)) (x .holds)
       ∙ ap (λ (t : Bool). pick t (got (getD (x .all) (x .index) (field 0 0 0))) (refused 7 0)) (lt-ltb (x .index) (length (x .all)) (x .within))
       ∙ ap (λ (d : Field). got d) (x .this)
 
   -- what an edit of it answers
-  pub set-found : (r : FieldRow) (x : Found c s f r) (n : ℕ)
+  pub set-found : (r : Entry) (x : Found c s f r) (n : ℕ)
       → setField c f n ≡ pick (inField (field (x .bits) (x .low) (x .high)) n) (got (withField c (spot (x .item) (x .index)) n)) (refused 8 0)
   set-found r x n =
       ap (λ (a : Answer Spot). andThen a (λ y. andThen (fieldAt c y) (λ d. pick (inField d n) (got (withField c y n)) (refused 8 0)))) (x .stands)

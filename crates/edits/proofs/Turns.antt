@@ -9,18 +9,16 @@ use borrow.Author.Tests.{le-ltb, lt-ltb, eq-eqb, ne-eqb}
 use Rattle.codec.specs.Digits.{numberOf}
 use Rattle.codec.specs.Sheet.{Answer, got, refused, andThen}
 use Rattle.codec.specs.Writing.{leaves}
-use Rattle.codec.specs.Refusals.{refusalNumber, outcomeNumber, numberIn}
+use Rattle.codec.specs.Refusals.{refusalNumber, numberIn}
 use Rattle.codec.specs.declared.refusal.Refusal.{Refusal}
 use Rattle.codec.specs.declared.refusal.Refusal.the-variants.{InvalidPayloadLength, BufferOverflow}
-use Rattle.codec.specs.declared.refusal.Outcome.{Outcome}
-use Rattle.codec.specs.declared.refusal.Outcome.the-variants.{Accepted, Refused}
 use Rattle.codec.proofs.Writes.{refusal-some}
 use Rattle.commands.specs.declared.DirectCommands.{DirectCommands}
 use Rattle.edits.specs.Edit.{Edit, edit, setField, openCommand, editCommand, EditIs, numbersOf, bytesAfter, editsFrom, editsIn, stopList, leftBy, ListIs}
 use Rattle.edits.specs.Opened.{Opened, Opens}
 use Rattle.edits.specs.declared.sheet.Sheet.{Sheet}
 use Rattle.edits.specs.declared.opening.Opening.{Opening}
-use Rattle.edits.specs.declared.opening.Opening.the-variants.{Got, Refused as RefusedOpening}
+use Rattle.edits.specs.declared.opening.Opening.the-variants.{Got, Refused}
 
 -- ---- the loop that applies them: at i, the edits that are left are to do on what is there
 abbrev pub Turns : List ℕ → ℕ → List ℕ → List ℕ → List ℕ → List ℕ → ℕ → Type 0
@@ -44,18 +42,18 @@ edits-left es count i h =
     ∙ ap₂ (λ (x y : List ℕ). edit (numberOf (take 4 s)) (numberOf (take 4 x)) ∷ editsFrom (count - (i + 1)) y) (drop-drop 4 (i * 8) es)
     (drop-drop 8 (i * 8) es ∙ ap (λ (k : ℕ). drop k es) e)
 
-pub turns-next : (es : List ℕ) (count : ℕ) (p₀ a₀ p a p' : List ℕ) (i f n m : ℕ) (r : Outcome) → i < count → f ≡ numberOf (take 4 (drop (i * 8) es))
-    → n ≡ numberOf (take 4 (drop (i * 8 + 4) es)) → EditIs (editCommand p f n) r p p' → m ≡ outcomeNumber r → Turns es count p₀ a₀ p a i
-    → Turns es count p₀ a₀ p' (set a i m) (i + 1)
-turns-next es count p₀ a₀ p a p' i f n m r h x y e g t =
+pub turns-next : (es : List ℕ) (count : ℕ) (p₀ a₀ p a p' : List ℕ) (i f n r : ℕ) → i < count → f ≡ numberOf (take 4 (drop (i * 8) es))
+    → n ≡ numberOf (take 4 (drop (i * 8 + 4) es)) → EditIs (editCommand p f n) r p p' → Turns es count p₀ a₀ p a i
+    → Turns es count p₀ a₀ p' (set a i r) (i + 1)
+turns-next es count p₀ a₀ p a p' i f n r h x y e t =
     let rest = editsFrom (count - (i + 1)) (drop ((i + 1) * 8) es) in
     let l = edits-left es count i h ∙ ap₂ (λ (u v : ℕ). edit u v ∷ rest) (sym x) (sym y) in
     let b : bytesAfter p (edit f n ∷ rest) ≡ bytesAfter p' rest = ap (λ (q : List ℕ). bytesAfter q rest) (sym (e .1)) in
-    let d : sets a i (numbersOf p (edit f n ∷ rest)) ≡ sets (set a i m) (suc i) (numbersOf p' rest) =
-    ap₂ (λ (k : ℕ) (q : List ℕ). sets (set a i k) (suc i) (numbersOf q rest)) (sym (g ∙ e .0)) (sym (e .1)) in
+    let d : sets a i (numbersOf p (edit f n ∷ rest)) ≡ sets (set a i r) (suc i) (numbersOf p' rest) =
+    ap₂ (λ (k : ℕ) (q : List ℕ). sets (set a i k) (suc i) (numbersOf q rest)) (sym (e .0)) (sym (e .1)) in
     let o : suc i ≡ i + 1 = omega arith in (
       t .0 ∙ ap (bytesAfter p) l ∙ b,
-      t .1 ∙ ap (λ (z : List Edit). sets a i (numbersOf p z)) l ∙ d ∙ ap (λ (k : ℕ). sets (set a i m) k (numbersOf p' rest)) o,
+      t .1 ∙ ap (λ (z : List Edit). sets a i (numbersOf p z)) l ∙ d ∙ ap (λ (k : ℕ). sets (set a i r) k (numbersOf p' rest)) o,
     )
 
 pub turns-end : (es : List ℕ) (count : ℕ) (p₀ a₀ p a : List ℕ) (i : ℕ) → count ≤ i → Turns es count p₀ a₀ p a i
@@ -69,15 +67,15 @@ turns-end es count p₀ a₀ p a i h t =
 pub opened-is : (p : List ℕ) (r : Opening) (s : Sheet) → r ≡ Got s → Opens p r → Opened p s
 opened-is p r s e h = subst (λ (x : Opening). Opens p x) e h
 
-pub refused-is : (p : List ℕ) (o : Opening) (r : Refusal) → o ≡ RefusedOpening r → Opens p o → numberIn (openCommand p) ≡ refusalNumber r
+pub refused-is : (p : List ℕ) (o : Opening) (r : Refusal) → o ≡ Refused r → Opens p o → numberIn (openCommand p) ≡ refusalNumber r
 refused-is p o r e h = subst (λ (x : Opening). Opens p x) e h
 
 -- ---- a payload that was refused: so is each edit, with that number, and no byte changes
 module _ (p : List ℕ) (r : Refusal) (h : numberIn (openCommand p) ≡ refusalNumber r) where
-  pub edit-refused : (f n : ℕ) → EditIs (editCommand p f n) (Refused r) p p
+  pub edit-refused : (f n : ℕ) → EditIs (editCommand p f n) (refusalNumber r) p p
   edit-refused f n = by (openCommand p) h
     where
-      by : (a : Answer DirectCommands) → numberIn a ≡ refusalNumber r → EditIs (andThen a (λ c. setField c f n)) (Refused r) p p
+      by : (a : Answer DirectCommands) → numberIn a ≡ refusalNumber r → EditIs (andThen a (λ c. setField c f n)) (refusalNumber r) p p
       by (got c) e = absurd (omega (arith, e, refusal-some r))
       by (refused k l) e = (sym e, refl)
 
@@ -95,21 +93,21 @@ edits-count zero s = refl
 edits-count (suc k) s = ap suc (edits-count k (drop 8 s))
 
 -- ---- the answers of a list
-list-stopped : (es p a : List ℕ) (r : Refusal) → stopList (length es) (length a) ≡ refusalNumber r → ListIs es (Refused r) p p a a
+list-stopped : (es p a : List ℕ) (r : Refusal) → stopList (length es) (length a) ≡ refusalNumber r → ListIs es (refusalNumber r) p p a a
 list-stopped es p a r e = (sym e, by (stopList (length es) (length a)) (omega (arith, e, refusal-some r)))
   where
     by : (k : ℕ) → 0 < k → (p ≡ leftBy k p (editsIn es)) × (a ≡ leaves k (numbersOf p (editsIn es)) a)
     by zero h = absurd (omega arith)
     by (suc k) h = (refl, refl)
 
-pub list-uneven : (es p a : List ℕ) → (length es % 8 ≡ 0 → ⊥) → ListIs es (Refused InvalidPayloadLength) p p a a
+pub list-uneven : (es p a : List ℕ) → (length es % 8 ≡ 0 → ⊥) → ListIs es 1 p p a a
 list-uneven es p a h = list-stopped es p a InvalidPayloadLength (rw (ne-eqb (length es % 8) 0 h))
 
-pub list-short : (es p a : List ℕ) → length es % 8 ≡ 0 → length a < length es / 8 → ListIs es (Refused BufferOverflow) p p a a
+pub list-short : (es p a : List ℕ) → length es % 8 ≡ 0 → length a < length es / 8 → ListIs es 3 p p a a
 list-short es p a h l = list-stopped es p a BufferOverflow (rw (eq-eqb (length es % 8) 0 h, lt-ltb (length a) (length es / 8) l))
 
 pub list-done : (es p p' a a' : List ℕ) → length es % 8 ≡ 0 → length es / 8 ≤ length a
-    → (p' ≡ bytesAfter p (editsIn es)) × (a' ≡ sets a 0 (numbersOf p (editsIn es))) → ListIs es Accepted p p' a a'
+    → (p' ≡ bytesAfter p (editsIn es)) × (a' ≡ sets a 0 (numbersOf p (editsIn es))) → ListIs es 0 p p' a a'
 list-done es p p' a a' h l d =
     let e : stopList (length es) (length a) ≡ 0 = rw (eq-eqb (length es % 8) 0 h, le-ltb (length a) (length es / 8) l) in (
       sym e,
@@ -117,7 +115,7 @@ list-done es p p' a a' h l d =
     )
 
 pub list-refused : (es p a a' : List ℕ) (r : Refusal) (n : ℕ) → length es % 8 ≡ 0 → length es / 8 ≤ length a → numberIn (openCommand p) ≡ refusalNumber r
-    → n ≡ refusalNumber r → a' ≡ sets a 0 (replicate (length es / 8) n) → ListIs es Accepted p p a a'
+    → n ≡ refusalNumber r → a' ≡ sets a 0 (replicate (length es / 8) n) → ListIs es 0 p p a a'
 list-refused es p a a' r n h l o e d =
     let t = all-refused p r o (editsIn es) in
     list-done es p p a a' h l

@@ -10,8 +10,7 @@ use Rattle.codec.specs.Digits.{numberOf}
 use Rattle.codec.specs.Sheet.{Field, field, Item, packed, text, Answer, got, refused, andThen}
 use Rattle.codec.specs.Writing.{leaves}
 use Rattle.codec.specs.Edit.{setValue, inField}
-use Rattle.codec.specs.Refusals.{outcomeNumber, numberIn}
-use Rattle.codec.specs.declared.refusal.Outcome.{Outcome}
+use Rattle.codec.specs.Refusals.{numberIn}
 use Rattle.families.specs.Payload.{familyId}
 use Rattle.commands.specs.Reading.{readCommand}
 use Rattle.commands.specs.Writing.{payloadOf}
@@ -60,8 +59,8 @@ abbrev pub bytesLeft : List ℕ → Answer DirectCommands → List ℕ
 bytesLeft p (got c) = payloadOf c
 bytesLeft p (refused n l) = p
 
-abbrev pub EditIs : Answer DirectCommands → Outcome → List ℕ → List ℕ → Type 0
-EditIs a r s s' = (outcomeNumber r ≡ numberIn a) × (s' ≡ bytesLeft s a)
+abbrev pub EditIs : Answer DirectCommands → ℕ → List ℕ → List ℕ → Type 0
+EditIs a r s s' = (r ≡ numberIn a) × (s' ≡ bytesLeft s a)
 
 -- ---- A LIST: each edit on the bytes that those before it left
 abbrev pub numbersOf : List ℕ → List Edit → List ℕ
@@ -89,7 +88,7 @@ leftBy zero p es = bytesAfter p es
 leftBy (suc k) p es = p
 
 -- "each edit's number goes to its answer byte, and the list goes on after a refused edit"
-abbrev pub ListIs : List ℕ → Outcome → List ℕ → List ℕ → List ℕ → List ℕ → Type 0
+abbrev pub ListIs : List ℕ → ℕ → List ℕ → List ℕ → List ℕ → List ℕ → Type 0
 ListIs es r p p' a a' =
     let stop : ℕ = stopList (length es) (length a) in
-    (outcomeNumber r ≡ stop) × ((p' ≡ leftBy stop p (editsIn es)) × (a' ≡ leaves stop (numbersOf p (editsIn es)) a))
+    (r ≡ stop) × ((p' ≡ leftBy stop p (editsIn es)) × (a' ≡ leaves stop (numbersOf p (editsIn es)) a))

@@ -4,9 +4,13 @@ use Prim.Native.Nat.{ℕ, _≤_}
 use mathlib.Core.Bool.{Bool, true, false}
 use mathlib.Core.Path.{_≡_}
 use mathlib.Core.List.{List}
+use lib.ListN.{length, getD}
+use lib.Dec.{ltb, eqb}
+use Rattle.codec.specs.Pick.{pick}
 use Rattle.codec.specs.Sheet.{Item, got}
 use Rattle.codec.specs.Edit.{placeOf}
 use Rattle.codec.specs.Refusals.{numberIn, refusalNumber}
+use Rattle.codec.specs.declared.refusal.Refusal.the-variants.{NotAsWritten}
 use Rattle.families.specs.Payload.{familyId}
 use Rattle.families.specs.declared.vtx.VtxCommand.{VtxCommand}
 use Rattle.families.specs.declared.vtx.VtxCommand.the-variants.{SetFrequency, EnablePitModeOnPowerUp, PowerUpFromPitMode, SetDynamicPower, SetPower}
@@ -19,17 +23,9 @@ use Rattle.commands.proofs.Promised.{Sound}
 use Rattle.edits.specs.Record.{subOf, itemsIn, valuesIn}
 use Rattle.edits.specs.Edit.{openCommand}
 use Rattle.edits.specs.Table.{nearItem, farItem, sheetRow, straight, searched, rowsOf}
-use Rattle.edits.specs.declared.table.Origin.{Origin}
-use Rattle.edits.specs.declared.table.Origin.the-variants.{Start, Near, Far}
 use Rattle.edits.specs.declared.sheet.Sheet.{Sheet}
 use Rattle.edits.specs.declared.opening.Opening.{Opening}
 use Rattle.edits.specs.declared.opening.Opening.the-variants.{Got, Refused}
-
--- the place that a row's place counts from
-abbrev pub originAt : Origin → ℕ → ℕ → ℕ
-originAt Start near far = 0
-originAt Near near far = near
-originAt Far near far = far
 
 -- a sheet serves a command of this family, sub-command, items and values: the rows that it tells are those that 01's list gives, for
 -- every field number; and so are the places
@@ -64,6 +60,13 @@ hasPit (Crossfire c) = false
 hasPit (FlowControl c) = false
 hasPit (Screen c) = false
 hasPit (Ack a) = false
+
+-- what is told of a command as its sheet and the payload's length are known; and, of a pit command, the pit byte
+abbrev pub fitting : Sheet → ℕ → Opening
+fitting s n = pick (eqb n (s .size)) (Got s) (Refused NotAsWritten)
+
+abbrev pub unset : VtxCommand → List ℕ → Opening → Opening
+unset c p o = pick (vtxPit c) (pick (ltb 4 (length p)) (pick (ltb 127 (getD p 4 0)) (Refused NotAsWritten) o) o) o
 
 abbrev pub Opens : List ℕ → Opening → Type 0
 Opens p (Got s) = Opened p s

@@ -16,9 +16,25 @@ use Rattle.families.specs.Popup.{popupItems}
 use Rattle.families.specs.declared.screen.ScreenAdditionalData.the-variants.{Selection}
 use Rattle.edits.specs.Fields.{Spot, spot, of, Listed, everywhere, listed, fields, spotIn}
 use Rattle.edits.specs.Edit.{fieldOf}
-use Rattle.edits.specs.declared.table.Origin.{Origin}
-use Rattle.edits.specs.declared.table.Origin.the-variants.{Start, Near, Far}
 use Rattle.edits.specs.declared.table.FieldRow.{FieldRow}
+
+-- what a row's place counts from: the destination; the only or start colour or a popup's timeout; a selection's value
+pub data Origin : Type 0 where
+  Start : Origin
+  Near : Origin
+  Far : Origin
+
+-- a row: number, how many bytes hold the field, its range, their place from an origin; in their number it counts in units, and has so many
+-- values
+pub record Entry : Type 0 where
+  pub number : ℕ
+  pub width : ℕ
+  pub low : ℕ
+  pub high : ℕ
+  pub place : ℕ
+  pub origin : Origin
+  pub unit : ℕ
+  pub many : ℕ
 
 -- a field of b bits with `low` bits below it, in an item of w bytes: the bytes before the first that holds one of its bits; those that
 -- hold one
@@ -28,15 +44,15 @@ skipped w low b = w - (low + b + 7) / 8
 abbrev pub holding : ℕ → ℕ → ℕ
 holding low b = (low + b + 7) / 8 - low / 8
 
-abbrev pub rowWith : ℕ → ℕ → ℕ → ℕ → ℕ → Origin → ℕ → ℕ → FieldRow
-rowWith number width low high place origin unit many =
+abbrev pub entryWith : ℕ → ℕ → ℕ → ℕ → ℕ → Origin → ℕ → ℕ → Entry
+entryWith number width low high place origin unit many =
     record { number = number; width = width; low = low; high = high; place = place; origin = origin; unit = unit; many = many }
 
 -- the row of field number k: a field of b bits, `low` below it, of an item of w bytes that begins so many bytes from the origin
-abbrev pub rowOf : ℕ → Origin → ℕ → ℕ → ℕ → Field → FieldRow
-rowOf k o at w low (field b lo hi) = rowWith k (holding low b) lo hi (at + skipped w low b) o (2 ^ (low % 8)) (2 ^ b)
+abbrev pub rowOf : ℕ → Origin → ℕ → ℕ → ℕ → Field → Entry
+rowOf k o at w low (field b lo hi) = entryWith k (holding low b) lo hi (at + skipped w low b) o (2 ^ (low % 8)) (2 ^ b)
 
-abbrev pub itemRow : ℕ → Origin → ℕ → Item → ℕ → Answer FieldRow
+abbrev pub itemRow : ℕ → Origin → ℕ → Item → ℕ → Answer Entry
 itemRow k o at (packed w fs) j = andThen (fieldOf (packed w fs) j) (λ d. got (rowOf k o at w (below (widths fs) j) d))
 itemRow k o at (text least most) j = refused 7 0
 
@@ -72,11 +88,11 @@ anchor Start id sub is = 0
 anchor Near id sub is = nearItem id sub
 anchor Far id sub is = farItem is
 
-abbrev pub placedRow : ℕ → Origin → List Item → ℕ → Spot → Answer FieldRow
+abbrev pub placedRow : ℕ → Origin → List Item → ℕ → Spot → Answer Entry
 placedRow f o is a (spot i j) = itemRow f o (sizes (take (i - a) (drop a is))) (getD is i (text 0 0)) j
 
 -- the row that the sheets give for field f of a command of this family, sub-command and items
-abbrev pub sheetRow : ℕ → ℕ → List Item → ℕ → Answer FieldRow
+abbrev pub sheetRow : ℕ → ℕ → List Item → ℕ → Answer Entry
 sheetRow id sub is f = andThen (spotIn fields id sub f) (λ s. placedRow f (originOf f) is (anchor (originOf f) id sub is) s)
 
 -- between a row's origin and its item stand no texts
@@ -88,7 +104,7 @@ noTexts (text least most ∷ is) = false
 abbrev pub straightTo : List Item → ℕ → ℕ → Bool
 straightTo is a i = pick (leb a i) (noTexts (take (i - a) (drop a is))) false
 
-abbrev pub straightBy : List Item → ℕ → Answer Spot → Answer FieldRow → Bool
+abbrev pub straightBy : List Item → ℕ → Answer Spot → Answer Entry → Bool
 straightBy is a (refused n p) r = true
 straightBy is a (got (spot i j)) (refused n p) = true
 straightBy is a (got (spot i j)) (got r) = straightTo is a i
@@ -111,34 +127,51 @@ sheetItems id sub =
     ∷ pick (eqb id 0xFF) ackItems
     (byte ∷ pick (eqb id 0x22) (pick (eqb sub 0x01) (popupItems Selection true) (itemsOf screenRows sub)) (itemsOf (rowsIn id) sub))
 
-abbrev pub noRow : FieldRow
+abbrev pub noRow : Entry
 noRow = record { number = 0; width = 0; low = 0; high = 0; place = 0; origin = Start; unit = 0; many = 0 }
 
-abbrev pub listedRow : Listed → FieldRow
+abbrev pub listedRow : Listed → Entry
 listedRow (everywhere k i) = valueIn noRow (placedRow k Start (sheetItems 0x05 0x01) 0 (spot i 0))
 listedRow (listed k id [] j) = noRow
 listedRow (listed k id (of sub i ∷ at) j) =
     valueIn noRow (placedRow k (originOf k) (sheetItems id sub) (anchor (originOf k) id sub (sheetItems id sub)) (spot i j))
 
 -- 41 before 40: the rows that a command has stand together
-abbrev pub table : List FieldRow
+abbrev pub table : List Entry
 table = map listedRow (take 15 fields ++ (take 1 (drop 16 fields) ++ (take 1 (drop 15 fields) ++ drop 17 fields)))
 
 -- ---- A FIELD'S ROW among those of a command: rows 0 and 1, and those from first up to end
-abbrev pub searched : List FieldRow → ℕ → Answer FieldRow
+abbrev pub searched : List Entry → ℕ → Answer Entry
 searched [] f = refused 7 0
 searched (r ∷ rs) f = pick (eqb f (r .number)) (got r) (searched rs f)
 
-abbrev pub rowsFrom : ℕ → ℕ → List FieldRow
+abbrev pub rowsFrom : ℕ → ℕ → List Entry
 rowsFrom first end = take (end - first) (drop first table)
 
-abbrev pub rowsOf : ℕ → ℕ → List FieldRow
+abbrev pub rowsOf : ℕ → ℕ → List Entry
 rowsOf first end = take 2 table ++ rowsFrom first end
 
--- its index in the table; 32: none
-abbrev pub indexIn : List FieldRow → ℕ → ℕ → ℕ
-indexIn [] at f = 32
-indexIn (r ∷ rs) at f = pick (eqb f (r .number)) at (indexIn rs (at + 1) f)
+-- ---- AS THE CODE HAS IT: the row of a field number, its index, and its place in a command of which near and far are known
+abbrev pub originAt : Origin → ℕ → ℕ → ℕ
+originAt Start near far = 0
+originAt Near near far = near
+originAt Far near far = far
 
-abbrev pub rowAt : ℕ → ℕ → ℕ → ℕ
-rowAt f first end = pick (eqb f 1) 0 (pick (eqb f 2) 1 (indexIn (rowsFrom first end) first f))
+abbrev pub rowWith : ℕ → ℕ → ℕ → ℕ → ℕ → ℕ → ℕ → FieldRow
+rowWith index width low high place unit many =
+    record { index = index; width = width; low = low; high = high; place = place; unit = unit; many = many }
+
+abbrev pub located : ℕ → Entry → ℕ → ℕ → FieldRow
+located i e near far = rowWith i (e .width) (e .low) (e .high) (originAt (e .origin) near far + e .place) (e .unit) (e .many)
+
+-- 32: none
+abbrev pub rowIn : List Entry → ℕ → ℕ → ℕ → ℕ → FieldRow
+rowIn [] i f near far = rowWith 32 1 0 0 0 1 1
+rowIn (e ∷ es) i f near far = pick (eqb f (e .number)) (located i e near far) (rowIn es (i + 1) f near far)
+
+abbrev pub rowFor : ℕ → ℕ → ℕ → FieldRow
+rowFor f near far = rowIn table 0 f near far
+
+-- whether a command has the row of an index
+abbrev pub isAmong : ℕ → ℕ → ℕ → Bool
+isAmong i first end = pick (ltb i 2) true (pick (ltb i first) false (ltb i end))

@@ -4,54 +4,30 @@ ghost use Prim.Native.Nat.{_+_, _*_, _≤_};
 ghost use lib.ListN.{length, take, drop, replicate};
 ghost use lib.Seq.{sets};
 ghost use Rattle.codec.specs.Digits.{numberOf};
-ghost use Rattle.codec.specs.Refusals.{outcomeNumber};
 ghost use Rattle.edits.specs.Edit.{editCommand, EditIs, numbersOf, bytesAfter, editsFrom};
-ghost use Rattle.edits.specs.Opened.{originAt, Opened};
+ghost use Rattle.edits.specs.Opened.{Opened};
 use crate::sheet::Sheet;
-use crate::table::Origin;
 use codec::reader::NumberRead;
 use codec::reader::Width;
-use codec::refusal::Outcome;
 use codec::refusal::Refusal;
 
-fn origin_at(origin: Origin, near: usize, far: usize) -> usize
-    ensures { λ r. ⌜ r ≡ originAt origin near far ⌝ }
-{
-    match origin {
-        Origin::Start => 0,
-        Origin::Near => near,
-        Origin::Far => far,
-    }
-}
-
-pub(crate) fn apply(payload: &mut [u8], sheet: Sheet, field: u32, number: u32) -> Outcome
+// The number of one edit.
+pub(crate) fn apply(payload: &mut [u8], sheet: Sheet, field: u32, number: u32) -> u8
     requires { ⌜ Opened (now payload) sheet ⌝ }
     ensures { λ r. ⌜ EditIs (editCommand (now (payload .entry)) field number) r (now (payload .entry)) (now (payload .exit)) × Opened (now (payload .exit)) sheet ⌝ }
 {
-    let i = crate::table::find(field, sheet.first, sheet.end);
-    if i == crate::table::COUNT {
-        return Outcome::Refused(Refusal::NoSuchField);
+    let row = crate::table::row(field, sheet.near, sheet.far);
+    if !crate::table::among(row.index, sheet.first, sheet.end) {
+        return codec::refusal::number(Refusal::NoSuchField);
     }
-    let row = crate::table::row(i);
     if number < row.low {
-        return Outcome::Refused(Refusal::NumberOutsideRange);
+        return codec::refusal::number(Refusal::NumberOutsideRange);
     }
     if row.high < number {
-        return Outcome::Refused(Refusal::NumberOutsideRange);
+        return codec::refusal::number(Refusal::NumberOutsideRange);
     }
-    let origin = row.origin;
-    let at = origin_at(origin, sheet.near, sheet.far) + row.place;
-    crate::change::change(payload, at, row.width, row.unit, row.many, number);
-    Outcome::Accepted
-}
-
-fn number_of(o: Outcome) -> u8
-    ensures { λ n. ⌜ n ≡ outcomeNumber o ⌝ }
-{
-    match o {
-        Outcome::Accepted => 0,
-        Outcome::Refused(r) => codec::refusal::number(r),
-    }
+    crate::change::change(payload, row.place, row.width, row.unit, row.many, number);
+    0
 }
 
 // Four bytes, big-endian.
@@ -80,7 +56,7 @@ pub(crate) fn apply_each(
     while i < count {
         let field = long_at(edits, i * 8);
         let number = long_at(edits, i * 8 + 4);
-        answers[i] = number_of(apply(payload, sheet, field, number));
+        answers[i] = apply(payload, sheet, field, number);
         i += 1;
     }
 }

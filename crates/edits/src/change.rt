@@ -42,8 +42,19 @@ fn put_field(s: &mut [u8], at: usize, w: usize, unit: u32, many: u64, n: u32)
     }
 }
 
-// The check is renewed from the field's bytes alone, before and after; what stands behind them costs at most seven steps.
-pub(crate) fn change(s: &mut [u8], at: usize, w: usize, unit: u32, many: u64, n: u32)
+// One byte is its own number, and the check of the difference.
+fn change_byte(s: &mut [u8], at: usize, unit: u32, many: u64, n: u32)
+    requires { ⌜ (at + 1 < length (now s)) × ((0 < unit) × ((0 < many) × (replaced unit many (numberOf (held (now s) at 1)) n < 2 ^ 32))) ⌝ }
+    ensures { λ r. ⌜ now (s .exit) ≡ changed (now (s .entry)) at 1 unit many n ⌝ }
+{
+    let last = s.len() - 1;
+    let x = s[at];
+    let y = (replace(x as u32, unit, many, n) % 256) as u8;
+    s[at] = y;
+    s[last] = s[last] ^ crc::followed(x ^ y, last - at);
+}
+
+fn change_bytes(s: &mut [u8], at: usize, w: usize, unit: u32, many: u64, n: u32)
     requires { ⌜ (0 < w) × ((w ≤ 4) × ((at + w < length (now s)) × ((0 < unit) × ((0 < many) × (replaced unit many (numberOf (held (now s) at w)) n < 2 ^ 32))))) ⌝ }
     ensures { λ r. ⌜ now (s .exit) ≡ changed (now (s .entry)) at w unit many n ⌝ }
 {
@@ -53,4 +64,15 @@ pub(crate) fn change(s: &mut [u8], at: usize, w: usize, unit: u32, many: u64, n:
     put_field(s, at, w, unit, many, n);
     let after = crc::check(&s[at..end], 0);
     s[last] = s[last] ^ crc::followed(before ^ after, last - end);
+}
+
+// The check is renewed from the field's bytes alone, before and after; what stands behind them costs at most seven steps.
+pub(crate) fn change(s: &mut [u8], at: usize, w: usize, unit: u32, many: u64, n: u32)
+    requires { ⌜ (0 < w) × ((w ≤ 4) × ((at + w < length (now s)) × ((0 < unit) × ((0 < many) × (replaced unit many (numberOf (held (now s) at w)) n < 2 ^ 32))))) ⌝ }
+    ensures { λ r. ⌜ now (s .exit) ≡ changed (now (s .entry)) at w unit many n ⌝ }
+{
+    match w {
+        1 => change_byte(s, at, unit, many, n),
+        _ => change_bytes(s, at, w, unit, many, n),
+    }
 }

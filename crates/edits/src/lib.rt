@@ -1,7 +1,6 @@
-// Edits in place: one, and any list of them. Added by this port; the Rust has none.
+// Edits in place: one, and any list of them. Added by this port; the Rust has none. The answer is a number of 01, 0 where accepted.
 ghost use Rattle.edits.specs.Edit.{editCommand, EditIs, ListIs};
 use crate::opening::Opening;
-use codec::refusal::Outcome;
 use codec::refusal::Refusal;
 
 mod applying;
@@ -11,29 +10,29 @@ mod sheet;
 mod table;
 
 // "Order: the reader's refusal; 6 if writing what was read doesn't give these very bytes; 7; 8." Refused, no byte changes.
-pub fn edit(payload: &mut [u8], field: u32, number: u32) -> Outcome
+pub fn edit(payload: &mut [u8], field: u32, number: u32) -> u8
     ensures { λ r. ⌜ EditIs (editCommand (now (payload .entry)) field number) r (now (payload .entry)) (now (payload .exit)) ⌝ }
 {
     match opening::open(payload) {
         Opening::Got(sheet) => applying::apply(payload, sheet, field, number),
-        Opening::Refused(r) => Outcome::Refused(r),
+        Opening::Refused(r) => codec::refusal::number(r),
     }
 }
 
 // Edits of 8 bytes, field then number, one after the other; the number of each goes to its answer byte. The payload is read once.
-pub fn edit_list(payload: &mut [u8], edits: &[u8], answers: &mut [u8]) -> Outcome
+pub fn edit_list(payload: &mut [u8], edits: &[u8], answers: &mut [u8]) -> u8
     ensures { λ r. ⌜ ListIs (now (edits .entry)) r (now (payload .entry)) (now (payload .exit)) (now (answers .entry)) (now (answers .exit)) ⌝ }
 {
     if edits.len() % 8 != 0 {
-        return Outcome::Refused(Refusal::InvalidPayloadLength);
+        return codec::refusal::number(Refusal::InvalidPayloadLength);
     }
     let count = edits.len() / 8;
     if answers.len() < count {
-        return Outcome::Refused(Refusal::BufferOverflow);
+        return codec::refusal::number(Refusal::BufferOverflow);
     }
     match opening::open(payload) {
         Opening::Got(sheet) => applying::apply_each(payload, sheet, edits, answers, count),
         Opening::Refused(r) => applying::answer_all(answers, count, codec::refusal::number(r)),
     }
-    Outcome::Accepted
+    0
 }

@@ -2,11 +2,11 @@
 ghost use mathlib.Core.Path.{_≡_};
 ghost use Prim.Native.Nat.{_+_, _≤_};
 ghost use lib.ListN.{length};
-ghost use Rattle.edits.specs.Opened.{hasPit, Opens, OpensRead};
+ghost use Rattle.edits.specs.Sheet.{vtxSheet};
+ghost use Rattle.edits.specs.Opened.{fitting, unset, Opens, OpensRead};
 use crate::sheet::Sheet;
-use codec::refusal::Outcome;
 use codec::refusal::Refusal;
-use commands::DirectCommands;
+use commands::kind::KindRead;
 use families::payload::CommandPayload;
 use families::vtx::VtxCommand;
 
@@ -15,7 +15,18 @@ pub(crate) enum Opening {
     Refused(Refusal),
 }
 
-fn vtx_pit(c: VtxCommand) -> bool
+// Reading ignores bytes after the last item.
+fn fits(sheet: Sheet, n: usize) -> Opening
+    ensures { λ r. ⌜ r ≡ fitting sheet n ⌝ }
+{
+    if n == sheet.size {
+        Opening::Got(sheet)
+    } else {
+        Opening::Refused(Refusal::NotAsWritten)
+    }
+}
+
+fn is_pit(c: VtxCommand) -> bool
     ensures { λ r. ⌜ r ≡ Rattle.edits.specs.Opened.vtxPit c ⌝ }
 {
     match c {
@@ -31,48 +42,43 @@ fn vtx_pit(c: VtxCommand) -> bool
     }
 }
 
-fn has_pit(payload: CommandPayload) -> bool
-    ensures { λ r. ⌜ r ≡ hasPit payload ⌝ }
+// It ignores bit 7 of a pit byte too.
+fn judge_vtx(c: VtxCommand, s: &[u8]) -> Opening
+    ensures { λ r. ⌜ r ≡ unset c (now (s .entry)) (fitting (vtxSheet c) (length (now (s .entry)))) ⌝ }
 {
-    match payload {
-        CommandPayload::Fc(_) => false,
-        CommandPayload::Osd(_) => false,
-        CommandPayload::Vtx(c) => vtx_pit(c),
-        CommandPayload::Led(_) => false,
-        CommandPayload::General(_) => false,
-        CommandPayload::Crossfire(_) => false,
-        CommandPayload::FlowControl(_) => false,
-        CommandPayload::Screen(_) => false,
-        CommandPayload::Ack(_) => false,
+    if is_pit(c) {
+        if 4 < s.len() {
+            if 127 < s[4] {
+                return Opening::Refused(Refusal::NotAsWritten);
+            }
+        }
     }
+    fits(crate::sheet::of_vtx(c), s.len())
 }
 
-// What was read of s is s as written: reading ignores bytes after the last item, and bit 7 of a pit byte. Nothing is written to tell.
+// What was read of s is s as written. Nothing is written to tell.
 fn judge(payload: CommandPayload, n: usize, s: &[u8]) -> Opening
     requires { ⌜ n + 4 ≤ length (now s) ⌝ }
     ensures { λ r. ⌜ OpensRead payload n (now (s .entry)) r ⌝ }
 {
-    let sheet = crate::sheet::sheet_of(payload, n, s);
-    if s.len() != sheet.size {
-        return Opening::Refused(Refusal::NotAsWritten);
+    match payload {
+        CommandPayload::Fc(_) => fits(crate::sheet::alone(), s.len()),
+        CommandPayload::Osd(_) => fits(crate::sheet::plain(6, 2, 3), s.len()),
+        CommandPayload::Vtx(c) => judge_vtx(c, s),
+        CommandPayload::Led(c) => fits(crate::sheet::of_led(c), s.len()),
+        CommandPayload::General(c) => fits(crate::sheet::of_general(c), s.len()),
+        CommandPayload::Crossfire(c) => fits(crate::sheet::of_crossfire(c), s.len()),
+        CommandPayload::FlowControl(c) => fits(crate::sheet::of_flow(c), s.len()),
+        CommandPayload::Screen(c) => fits(crate::sheet::of_screen(c, n, s), s.len()),
+        CommandPayload::Ack(_) => fits(crate::sheet::plain(n + 8, 29, 32), s.len()),
     }
-    if has_pit(payload) {
-        if 127 < s[4] {
-            return Opening::Refused(Refusal::NotAsWritten);
-        }
-    }
-    Opening::Got(sheet)
 }
 
 pub(crate) fn open(s: &[u8]) -> Opening
     ensures { λ r. ⌜ Opens (now (s .entry)) r ⌝ }
 {
-    let read = DirectCommands::from_bytes(s);
-    let outcome = read.outcome;
-    let command = read.command;
-    let payload = command.payload;
-    match outcome {
-        Outcome::Accepted => judge(payload, command.len, s),
-        Outcome::Refused(r) => Opening::Refused(r),
+    match commands::kind::read(s) {
+        KindRead::Got { payload, len } => judge(payload, len, s),
+        KindRead::Refused(r) => Opening::Refused(r),
     }
 }

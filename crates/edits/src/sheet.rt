@@ -3,13 +3,12 @@
 ghost use mathlib.Core.Path.{_≡_};
 ghost use Prim.Native.Nat.{_+_, _≤_};
 ghost use lib.ListN.{length};
-ghost use Rattle.edits.specs.Sheet.{plain as plainSheet, alone as aloneSheet, coloured as colouredSheet, vtxSheet, ledSheet, generalSheet, crossfireSheet, flowSheet, afterText, popupSheet, screenSheet, sheetOf};
+ghost use Rattle.edits.specs.Sheet.{plain as plainSheet, alone as aloneSheet, coloured as colouredSheet, vtxSheet, ledSheet, generalSheet, crossfireSheet, flowSheet, afterText, popupSheet, screenSheet};
 use codec::reader::TextRead;
 use families::crossfire::CrossfireCommand;
 use families::flow_control::FlowControlCommand;
 use families::general::GeneralCommand;
 use families::led::LedCommand;
-use families::payload::CommandPayload;
 use families::screen::ScreenCommand;
 use families::vtx::VtxCommand;
 
@@ -22,7 +21,7 @@ pub(crate) struct Sheet {
 }
 
 // All places are fixed.
-fn plain(size: usize, first: usize, end: usize) -> Sheet
+pub(crate) fn plain(size: usize, first: usize, end: usize) -> Sheet
     ensures { λ r. ⌜ r ≡ plainSheet size first end ⌝ }
 {
     Sheet {
@@ -35,13 +34,13 @@ fn plain(size: usize, first: usize, end: usize) -> Sheet
 }
 
 // A sub-command alone has no field of its own.
-fn alone() -> Sheet
+pub(crate) fn alone() -> Sheet
     ensures { λ r. ⌜ r ≡ aloneSheet ⌝ }
 {
     plain(5, 2, 2)
 }
 
-fn of_vtx(c: VtxCommand) -> Sheet
+pub(crate) fn of_vtx(c: VtxCommand) -> Sheet
     ensures { λ r. ⌜ r ≡ vtxSheet c ⌝ }
 {
     match c {
@@ -70,7 +69,7 @@ fn coloured(size: usize, first: usize, end: usize, near: usize) -> Sheet
     }
 }
 
-fn of_led(c: LedCommand) -> Sheet
+pub(crate) fn of_led(c: LedCommand) -> Sheet
     ensures { λ r. ⌜ r ≡ ledSheet c ⌝ }
 {
     match c {
@@ -90,7 +89,7 @@ fn of_led(c: LedCommand) -> Sheet
     }
 }
 
-fn of_general(c: GeneralCommand) -> Sheet
+pub(crate) fn of_general(c: GeneralCommand) -> Sheet
     ensures { λ r. ⌜ r ≡ generalSheet c ⌝ }
 {
     match c {
@@ -102,7 +101,7 @@ fn of_general(c: GeneralCommand) -> Sheet
     }
 }
 
-fn of_crossfire(c: CrossfireCommand) -> Sheet
+pub(crate) fn of_crossfire(c: CrossfireCommand) -> Sheet
     ensures { λ r. ⌜ r ≡ crossfireSheet c ⌝ }
 {
     match c {
@@ -119,7 +118,7 @@ fn of_crossfire(c: CrossfireCommand) -> Sheet
     }
 }
 
-fn of_flow(c: FlowControlCommand) -> Sheet
+pub(crate) fn of_flow(c: FlowControlCommand) -> Sheet
     ensures { λ r. ⌜ r ≡ flowSheet c ⌝ }
 {
     match c {
@@ -169,30 +168,12 @@ fn of_popup(n: usize, s: &[u8]) -> Sheet
     }
 }
 
-fn of_screen(c: ScreenCommand, n: usize, s: &[u8]) -> Sheet
+pub(crate) fn of_screen(c: ScreenCommand, n: usize, s: &[u8]) -> Sheet
     requires { ⌜ n + 4 ≤ length (now s) ⌝ }
     ensures { λ r. ⌜ r ≡ screenSheet c n (now (s .entry)) ⌝ }
 {
     match c {
         ScreenCommand::PopupMessageStart => of_popup(n, s),
         ScreenCommand::SelectionReturnValue { value, response } => plain(7, 27, 29),
-    }
-}
-
-// Of the command read from the payload s, with n stored bytes.
-pub(crate) fn sheet_of(payload: CommandPayload, n: usize, s: &[u8]) -> Sheet
-    requires { ⌜ n + 4 ≤ length (now s) ⌝ }
-    ensures { λ r. ⌜ r ≡ sheetOf payload n (now (s .entry)) ⌝ }
-{
-    match payload {
-        CommandPayload::Fc(_) => alone(),
-        CommandPayload::Osd(_) => plain(6, 2, 3),
-        CommandPayload::Vtx(c) => of_vtx(c),
-        CommandPayload::Led(c) => of_led(c),
-        CommandPayload::General(c) => of_general(c),
-        CommandPayload::Crossfire(c) => of_crossfire(c),
-        CommandPayload::FlowControl(c) => of_flow(c),
-        CommandPayload::Screen(c) => of_screen(c, n, s),
-        CommandPayload::Ack(_) => plain(n + 8, 29, 32),
     }
 }

@@ -17,6 +17,9 @@ apply-requires c κs = opened-is (now (c .before .before .before .before .before
 enum-known-r : tie.Need-enum-known-r
 enum-known-r c = search needs
 
+number-requires : tie.Need-number-requires
+number-requires c κs = search needs
+
 same-length : tie.Need-same-length
 same-length c = search needs
 
@@ -27,7 +30,7 @@ same-length-2 : tie.Need-same-length-2
 same-length-2 c = search needs
 
 returns-2 : tie.Need-returns-2
-returns-2 c = edit-refused (now (c .before .before .before .before .before .before .args .payload)) (c .before .r .given .0 .0) (refused-is (now (c .before .before .before .before .before .before .args .payload)) (c .before .before .before .«open» .result) (c .before .r .given .0 .0) (c .before .r .given .1) (c .before .before .before .«open» .ensures)) (c .before .before .before .before .before .before .args .field) (c .before .before .before .before .before .before .args .number)
+returns-2 c = rw (c .number .ensures) (edit-refused (now (c .before .before .before .before .before .before .before .args .payload)) (c .before .before .r .given .0 .0) (refused-is (now (c .before .before .before .before .before .before .before .args .payload)) (c .before .before .before .before .«open» .result) (c .before .before .r .given .0 .0) (c .before .before .r .given .1) (c .before .before .before .before .«open» .ensures)) (c .before .before .before .before .before .before .before .args .field) (c .before .before .before .before .before .before .before .args .number))
 
 pub edit-spec : {M : Type 1} → statement M
 edit-spec =
@@ -37,6 +40,7 @@ edit-spec =
     enum-known-sheet
     apply-requires
     enum-known-r
+    number-requires
     same-length
     returns
     same-length-2

@@ -6,11 +6,17 @@ use Rattle.edits.proofs.Turns.{opened-is, refused-is, list-uneven, list
 use Rattle.edits.proofs.edit_list.Statement.{statement}
 use Rattle.edits.proofs.edit_list.Tie as tie
 
+number-requires : tie.Need-number-requires
+number-requires c κs = search needs
+
 returns : tie.Need-returns
-returns c = list-uneven (now (c .before .before .before .before .args .edits)) (now (c .before .before .before .before .args .payload)) (now (c .before .before .before .before .args .answers)) (c .if1 .taken)
+returns c = rw (c .number .ensures) (list-uneven (now (c .before .before .before .before .before .args .edits)) (now (c .before .before .before .before .before .args .payload)) (now (c .before .before .before .before .before .args .answers)) (c .before .if1 .taken))
+
+number-requires-2 : tie.Need-number-requires-2
+number-requires-2 c κs = search needs
 
 returns-2 : tie.Need-returns-2
-returns-2 c = list-short (now (c .before .before .before .before .before .args .edits)) (now (c .before .before .before .before .before .args .payload)) (now (c .before .before .before .before .before .args .answers)) (c .before .if1 .left) (c .if2 .taken)
+returns-2 c = rw (c .number2 .ensures) (list-short (now (c .before .before .before .before .before .before .args .edits)) (now (c .before .before .before .before .before .before .args .payload)) (now (c .before .before .before .before .before .before .args .answers)) (c .before .before .if1 .left) (c .before .if2 .taken))
 
 open-requires : tie.Need-open-requires
 open-requires c κs = search needs
@@ -24,8 +30,8 @@ apply-each-requires c κs = (opened-is (now (c .before .before .before .before .
 enum-known-r : tie.Need-enum-known-r
 enum-known-r c = search needs
 
-number-requires : tie.Need-number-requires
-number-requires c κs = search needs
+number-requires-3 : tie.Need-number-requires-3
+number-requires-3 c κs = search needs
 
 answer-all-requires : tie.Need-answer-all-requires
 answer-all-requires c κs = search needs
@@ -46,19 +52,21 @@ same-length-4 : tie.Need-same-length-4
 same-length-4 c = search needs
 
 returns-4 : tie.Need-returns-4
-returns-4 c = list-refused (now (c .before .before .before .before .before .before .before .before .before .before .before .before .before .before .before .args .edits)) (now (c .before .before .before .before .before .before .before .before .before .before .before .before .before .before .before .args .payload)) (now (c .before .before .before .before .before .before .before .before .before .before .before .before .before .before .before .args .answers)) _ (c .before .before .before .before .before .before .r .given .0 .0) (c .before .before .before .number .result) (c .before .before .before .before .before .before .before .before .before .before .before .if1 .left) (c .before .before .before .before .before .before .before .before .before .before .if2 .left) (refused-is (now (c .before .before .before .before .before .before .before .before .before .before .before .before .before .before .before .args .payload)) (c .before .before .before .before .before .before .before .before .«open» .result) (c .before .before .before .before .before .before .r .given .0 .0) (c .before .before .before .before .before .before .r .given .1) (c .before .before .before .before .before .before .before .before .«open» .ensures)) (c .before .before .before .number .ensures) (c .before .before .answer-all .ensures)
+returns-4 c = list-refused (now (c .before .before .before .before .before .before .before .before .before .before .before .before .before .before .before .args .edits)) (now (c .before .before .before .before .before .before .before .before .before .before .before .before .before .before .before .args .payload)) (now (c .before .before .before .before .before .before .before .before .before .before .before .before .before .before .before .args .answers)) _ (c .before .before .before .before .before .before .r .given .0 .0) (c .before .before .before .number3 .result) (c .before .before .before .before .before .before .before .before .before .before .before .if1 .left) (c .before .before .before .before .before .before .before .before .before .before .if2 .left) (refused-is (now (c .before .before .before .before .before .before .before .before .before .before .before .before .before .before .before .args .payload)) (c .before .before .before .before .before .before .before .before .«open» .result) (c .before .before .before .before .before .before .r .given .0 .0) (c .before .before .before .before .before .before .r .given .1) (c .before .before .before .before .before .before .before .before .«open» .ensures)) (c .before .before .before .number3 .ensures) (c .before .before .answer-all .ensures)
 
 pub edit-list-spec : {M : Type 1} → statement M
 edit-list-spec =
     tie.close
     (tie.spec
+    number-requires
     returns
+    number-requires-2
     returns-2
     open-requires
     enum-known-sheet
     apply-each-requires
     enum-known-r
-    number-requires
+    number-requires-3
     answer-all-requires
     same-length
     same-length-2

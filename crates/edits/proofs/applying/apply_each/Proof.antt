@@ -37,9 +37,6 @@ long-at-requires-2 c κs = search needs
 apply-requires : tie.Need-apply-requires Inv-loop μ-loop
 apply-requires c κs = c .before .before .before .before .loop .inv .1 .1 .1 .0
 
-number-of-requires : tie.Need-number-of-requires Inv-loop μ-loop
-number-of-requires c κs = search needs
-
 slice-write-answers : tie.Need-slice-write-answers Inv-loop μ-loop
 slice-write-answers c = search needs
 
@@ -50,7 +47,7 @@ loop-less : tie.Need-loop-less Inv-loop μ-loop
 loop-less c = search needs
 
 loop-again : tie.Need-loop-again Inv-loop μ-loop
-loop-again c = (search needs, (c .before .before .payload .given ∙ c .before .before .before .before .before .before .before .before .loop .inv .1 .0, (rw length-set (c .before .before .before .before .before .before .before .before .loop .inv .1 .1 .0), (c .before .before .before .apply .ensures .1, turns-next (now (c .before .before .before .before .before .before .before .before .before .before .before .before .args .edits)) (c .before .before .before .before .before .before .before .before .before .before .before .before .args .count) (now (c .before .before .before .before .before .before .before .before .before .before .before .before .args .payload)) (now (c .before .before .before .before .before .before .before .before .before .before .before .before .args .answers)) (c .before .before .before .before .before .before .before .before .loop .payload) (c .before .before .before .before .before .before .before .before .loop .answers) (c .before .before .before .apply .last .0) (c .before .before .before .before .before .before .before .before .loop .i) (c .before .before .before .before .before .before .long-at .result) (c .before .before .before .before .before .long-at2 .result) (c .number-of .result) (c .before .before .before .apply .result) (c .before .before .before .before .before .before .before .loop-test .taken) (c .before .before .before .before .before .before .long-at .ensures) (c .before .before .before .before .before .long-at2 .ensures) (c .before .before .before .apply .ensures .0) (c .number-of .ensures) (c .before .before .before .before .before .before .before .before .loop .inv .1 .1 .1 .1)))))
+loop-again c = (search needs, (c .before .payload .given ∙ c .before .before .before .before .before .before .before .loop .inv .1 .0, (rw length-set (c .before .before .before .before .before .before .before .loop .inv .1 .1 .0), (c .before .before .apply .ensures .1, turns-next (now (c .before .before .before .before .before .before .before .before .before .before .before .args .edits)) (c .before .before .before .before .before .before .before .before .before .before .before .args .count) (now (c .before .before .before .before .before .before .before .before .before .before .before .args .payload)) (now (c .before .before .before .before .before .before .before .before .before .before .before .args .answers)) (c .before .before .before .before .before .before .before .loop .payload) (c .before .before .before .before .before .before .before .loop .answers) (c .before .before .apply .last .0) (c .before .before .before .before .before .before .before .loop .i) (c .before .before .before .before .before .long-at .result) (c .before .before .before .before .long-at2 .result) (c .before .before .apply .result) (c .before .before .before .before .before .before .loop-test .taken) (c .before .before .before .before .before .long-at .ensures) (c .before .before .before .before .long-at2 .ensures) (c .before .before .apply .ensures .0) (c .before .before .before .before .before .before .before .loop .inv .1 .1 .1 .1)))))
 
 same-length : tie.Need-same-length Inv-loop μ-loop
 same-length c = c .before .loop .inv .1 .0
@@ -74,7 +71,6 @@ apply-each-spec =
     add-long-at
     long-at-requires-2
     apply-requires
-    number-of-requires
     slice-write-answers
     add-i
     loop-less
