@@ -42,7 +42,7 @@ fn put_field(s: &mut [u8], at: usize, w: usize, unit: u32, many: u64, n: u32)
     }
 }
 
-// One byte is its own number, and the check of the difference.
+// One byte is its own number, and the check is renewed from what it was plus what it is.
 fn change_byte(s: &mut [u8], at: usize, unit: u32, many: u64, n: u32)
     requires { ⌜ (at + 1 < length (now s)) × ((0 < unit) × ((0 < many) × (replaced unit many (numberOf (held (now s) at 1)) n < 2 ^ 32))) ⌝ }
     ensures { λ r. ⌜ now (s .exit) ≡ changed (now (s .entry)) at 1 unit many n ⌝ }
@@ -54,6 +54,7 @@ fn change_byte(s: &mut [u8], at: usize, unit: u32, many: u64, n: u32)
     s[last] = s[last] ^ crc::followed(x ^ y, last - at);
 }
 
+// More bytes are changed by way of their number, and checked before and after.
 fn change_bytes(s: &mut [u8], at: usize, w: usize, unit: u32, many: u64, n: u32)
     requires { ⌜ (0 < w) × ((w ≤ 4) × ((at + w < length (now s)) × ((0 < unit) × ((0 < many) × (replaced unit many (numberOf (held (now s) at w)) n < 2 ^ 32))))) ⌝ }
     ensures { λ r. ⌜ now (s .exit) ≡ changed (now (s .entry)) at w unit many n ⌝ }
@@ -66,7 +67,7 @@ fn change_bytes(s: &mut [u8], at: usize, w: usize, unit: u32, many: u64, n: u32)
     s[last] = s[last] ^ crc::followed(before ^ after, last - end);
 }
 
-// The check is renewed from the field's bytes alone, before and after; what stands behind them costs at most seven steps.
+// The check is renewed from the field's bytes alone; what stands behind them costs at most seven steps.
 pub(crate) fn change(s: &mut [u8], at: usize, w: usize, unit: u32, many: u64, n: u32)
     requires { ⌜ (0 < w) × ((w ≤ 4) × ((at + w < length (now s)) × ((0 < unit) × ((0 < many) × (replaced unit many (numberOf (held (now s) at w)) n < 2 ^ 32))))) ⌝ }
     ensures { λ r. ⌜ now (s .exit) ≡ changed (now (s .entry)) at w unit many n ⌝ }

@@ -39,7 +39,8 @@ fn of(
 
 // THE TABLE: number; index, width, low, high, place, unit, many. Places that are not fixed count from what the command's sheet tells: its
 // only or start colour or a popup's timeout (near), a selection's value (far). In the order of 01, but 41 before 40: the rows that a
-// command has stand together. As a `match` and no array: a constant array is put on the stack anew at each use.
+// command has stand together. Any other number has no row, index 32. As a `match` and no array: a constant array is put on the stack anew
+// at each use.
 pub(crate) fn row(field: u32, near: usize, far: usize) -> FieldRow
     requires { ⌜ (near ≤ 60) × (far ≤ 60) ⌝ }
     ensures { λ r. ⌜ r ≡ rowFor field near far ⌝ }
