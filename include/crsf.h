@@ -129,18 +129,18 @@ enum {
 };
 
 enum {
-    CRSF_FIELDS_HEADER = 0,           /* a text's image, as the four other texts */
+    CRSF_FIELDS_HEADER = 0, /* a text's image, as the four other texts */
     CRSF_FIELDS_INFO = 52,
     CRSF_FIELDS_TIMEOUT = 104,
-    CRSF_FIELDS_CLOSE = 105,          /* 0 or 1 */
-    CRSF_FIELDS_ADDITIONAL = 106,     /* one of the three below */
+    CRSF_FIELDS_CLOSE = 105,      /* 0 or 1 */
+    CRSF_FIELDS_ADDITIONAL = 106, /* one of the three below */
     CRSF_FIELDS_LABEL = 107,
     CRSF_FIELDS_VALUE = 159,
     CRSF_FIELDS_MIN = 160,
     CRSF_FIELDS_MAX = 161,
     CRSF_FIELDS_DEFAULT = 162,
     CRSF_FIELDS_UNIT = 163,
-    CRSF_FIELDS_HAS_POSSIBLE = 215,   /* 0 or 1 */
+    CRSF_FIELDS_HAS_POSSIBLE_VALUES = 215, /* 0 or 1 */
     CRSF_FIELDS_POSSIBLE_VALUES = 216,
     CRSF_FIELDS_SIZE = 268
 };

@@ -1,14 +1,16 @@
 //! One input given to both sides: the answer's word and every lent byte have to be the same.
 use std::fmt::Debug;
 
+use crate::popups::Popup;
 use crate::side::Side;
 use crate::theirs::{self, RUST};
+use crate::types::Judged;
 use crate::{fields, image};
 
 /// What every lent byte holds before a call.
 pub const LENT: u8 = 0xA5;
 
-/// A slice that is lent has so many bytes less; those behind it are looked at, too.
+/// So many bytes behind a lent slice are looked at, too.
 const BEHIND: usize = 2;
 
 const MOST: usize = fields::SIZE + BEHIND;
@@ -44,16 +46,16 @@ impl<'a> Both<'a> {
         }
     }
 
-    fn lending(
+    fn lending<T: PartialEq + Debug>(
         &mut self,
         room: usize,
-        call: impl Fn(&Side, &mut [u8]) -> u32,
+        call: impl Fn(&Side, &mut [u8]) -> T,
         case: impl FnOnce() -> String,
     ) {
         let answer = |side: &Side| {
             let mut space = [LENT; MOST];
-            let word = call(side, &mut space[..room]);
-            (word, space)
+            let answer = call(side, &mut space[..room]);
+            (answer, space)
         };
         let (ours, theirs) = (answer(self.side), answer(&RUST));
         let seen = room + BEHIND;
@@ -148,6 +150,45 @@ impl<'a> Both<'a> {
         let ours = check(second, check(first, 0));
         self.note(ours, theirs::check_in_two(first, second), || {
             format!("check {first:02X?}, then {second:02X?}")
+        });
+    }
+
+    /// What both crates' types hold of a payload, or refuse.
+    pub fn types_read(&mut self, payload: &[u8]) {
+        self.left_behind += u64::from(theirs::left_behind(payload));
+        let (ours, theirs) = (self.side.types.read, RUST.types.read);
+        self.note(ours(payload), theirs(payload), || {
+            format!("types, read {payload:02X?}")
+        });
+    }
+
+    /// What both crates write of the command read, as it is or with other numbers.
+    pub fn types_write(&mut self, payload: &[u8], judged: Option<&Judged>, room: usize) {
+        self.left_behind += u64::from(theirs::left_behind(payload));
+        let call = |side: &Side, lent: &mut [u8]| (side.types.write)(payload, judged, lent);
+        self.lending(room, call, || {
+            format!("types, {payload:02X?} with {judged:?} into {room} bytes")
+        });
+    }
+
+    pub fn types_text(&mut self, bytes: &[u8]) {
+        let (ours, theirs) = (self.side.types.text, RUST.types.text);
+        self.note(ours(bytes), theirs(bytes), || {
+            format!("types, text {bytes:02X?}")
+        });
+    }
+
+    pub fn types_ack(&mut self, ids: [u8; 3], information: &[u8]) {
+        let (ours, theirs) = (self.side.types.ack, RUST.types.ack);
+        self.note(ours(ids, information), theirs(ids, information), || {
+            format!("types, ack {ids:02X?} {information:02X?}")
+        });
+    }
+
+    pub fn types_popup(&mut self, popup: &Popup) {
+        let (ours, theirs) = (self.side.types.popup, RUST.types.popup);
+        self.note(ours(popup), theirs(popup), || {
+            format!("types, {popup:02X?}")
         });
     }
 }

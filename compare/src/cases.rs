@@ -1,9 +1,10 @@
 //! Random input near every limit of document 01.
 use crate::fields;
-use crate::image::{self, Image, ACK, GENERAL, LED, SCREEN, VTX};
+use crate::image::{self, color_in_image, Image, ACK, GENERAL, LED, SCREEN, VTX};
 use crate::popups::{near, text, Popup};
 use crate::random::Random;
 use crate::theirs;
+use crate::types::Judged;
 
 /// A flag byte, mostly in range.
 fn flag(random: &mut Random) -> u8 {
@@ -28,13 +29,7 @@ fn color(random: &mut Random) -> (u16, u8, u8) {
     (hue, percent(random), percent(random))
 }
 
-/// As an image holds it.
-pub fn color_in_image((hue, saturation, value): (u16, u8, u8)) -> [u8; 4] {
-    let [high, low] = hue.to_be_bytes();
-    [high, low, saturation, value]
-}
-
-/// As a payload holds it: 9 bits, 7 bits, 8 bits.
+/// Hue, saturation and value as a payload holds them: 9 bits, 7 bits, 8 bits.
 pub fn color_in_payload((hue, saturation, value): (u16, u8, u8)) -> [u8; 3] {
     let [high, low] = (hue << 7 | u16::from(saturation & 0x7F)).to_be_bytes();
     [high, low, value]
@@ -184,6 +179,18 @@ pub fn near_payload(random: &mut Random, kind: (u8, u8, usize)) -> Vec<u8> {
         _ => {}
     }
     payload
+}
+
+/// Numbers for what writing judges, in range or near their limits.
+pub fn judged(random: &mut Random) -> Judged {
+    Judged {
+        frequency: frequency(random),
+        control: random.below(5) as u8,
+        switch: random.below(18) as u8,
+        start: color(random),
+        stop: color(random),
+        action: flag(random),
+    }
 }
 
 /// Text bytes with now and then a zero among them.

@@ -12,7 +12,7 @@ use uf_crsf::packets::{DirectCommands, LedColor, ScreenPopup, ScreenPopupFields,
 
 use crate::image::{ACK, CROSSFIRE, FLOW_CONTROL, GENERAL, LED, OSD, SCREEN, VTX};
 
-/// Sets one item of a command that has it. The number is in range: the Rust's writer looks at that, where it does.
+/// Sets one item of a command that has it. The number has to be in range: the Rust's writer judges VTX, LED and ACK only.
 pub type Change = fn(&mut DirectCommands, u32);
 
 /// A field, id and body of a command that has it, two numbers in its range, and its change.

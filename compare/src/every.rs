@@ -1,17 +1,16 @@
 //! Input set out in full, not at random.
-use crate::cases::{color_in_image, color_in_payload, payload};
-use crate::image::{self, Image, ACK, FLOW_CONTROL, GENERAL, LED, SCREEN, VTX};
+use crate::cases::{color_in_payload, payload};
+use crate::image::{self, color_in_image, Image, ACK, FLOW_CONTROL, GENERAL, LED, SCREEN, VTX};
 
 pub const ADDRESSES: [u8; 2] = [0xC8, 0xEA];
 
-/// Edges of a colour's items, and the largest that an image can hold.
+/// Edges of a colour's items, and the largest that an image can hold; saturation and value are percents.
 const HUES: [u16; 9] = [0, 1, 358, 359, 360, 361, 511, 512, 65535];
-const SATURATIONS: [u8; 8] = [0, 1, 99, 100, 101, 127, 128, 255];
 const PERCENTS: [u8; 8] = [0, 1, 99, 100, 101, 127, 128, 255];
 
 fn colors() -> impl Iterator<Item = (u16, u8, u8)> + Clone {
     HUES.into_iter().flat_map(|hue| {
-        SATURATIONS
+        PERCENTS
             .into_iter()
             .flat_map(move |s| PERCENTS.into_iter().map(move |value| (hue, s, value)))
     })
@@ -41,6 +40,15 @@ pub fn short_payloads(mut visit: impl FnMut(&[u8])) {
     }
     for addresses in words() {
         visit(&payload(addresses, image::FC, &[0x01]));
+    }
+}
+
+/// Every id with every sub-command, and nothing behind it.
+pub fn sub_commands(mut visit: impl FnMut(&[u8])) {
+    for id in 0..=255 {
+        for sub in 0..=255 {
+            visit(&payload(ADDRESSES, id, &[sub]));
+        }
     }
 }
 

@@ -9,16 +9,20 @@ pub const TEXT_SIZE: usize = 52;
 pub const POPUP_SIZE: usize = 56;
 pub const SIZE: usize = 268;
 
-const HEADER: usize = 0;
-const INFO: usize = 52;
-const TIMEOUT: usize = 104;
-const CLOSE: usize = 105;
-const KIND: usize = 106;
-const LABEL: usize = 107;
-const NUMBERS: usize = 159;
-const UNIT: usize = 163;
-const HAS_VALUES: usize = 215;
-const VALUES: usize = 216;
+// Places in the image of a popup's fields, by the names of include/crsf.h.
+pub const HEADER: usize = 0;
+pub const INFO: usize = 52;
+pub const TIMEOUT: usize = 104;
+pub const CLOSE: usize = 105;
+pub const ADDITIONAL: usize = 106;
+pub const LABEL: usize = 107;
+pub const VALUE: usize = 159;
+pub const MIN: usize = 160;
+pub const MAX: usize = 161;
+pub const DEFAULT: usize = 162;
+pub const UNIT: usize = 163;
+pub const HAS_POSSIBLE_VALUES: usize = 215;
+pub const POSSIBLE_VALUES: usize = 216;
 
 pub type Image = [u8; SIZE];
 
@@ -64,21 +68,19 @@ pub fn of(fields: &ScreenPopupFields) -> Image {
         put(UNIT, &selection.unit);
     }
     if let Some(values) = &fields.possible_values {
-        put(VALUES, values);
+        put(POSSIBLE_VALUES, values);
     }
     image[TIMEOUT] = fields.max_timeout_interval;
     image[CLOSE] = fields.close_button_option.into();
-    image[HAS_VALUES] = fields.possible_values.is_some().into();
-    image[KIND] = match &fields.additional_data {
+    image[HAS_POSSIBLE_VALUES] = fields.possible_values.is_some().into();
+    image[ADDITIONAL] = match &fields.additional_data {
         None => 0,
         Some(ScreenAdditionalData::Empty) => 1,
         Some(ScreenAdditionalData::Selection(selection)) => {
-            image[NUMBERS..UNIT].copy_from_slice(&[
-                selection.value,
-                selection.min_value,
-                selection.max_value,
-                selection.default_value,
-            ]);
+            image[VALUE] = selection.value;
+            image[MIN] = selection.min_value;
+            image[MAX] = selection.max_value;
+            image[DEFAULT] = selection.default_value;
             2
         }
     };
@@ -90,21 +92,21 @@ pub fn fields(image: &[u8]) -> Option<ScreenPopupFields> {
     if image.len() != SIZE {
         return None;
     }
-    let additional_data = match image[KIND] {
+    let additional_data = match image[ADDITIONAL] {
         0 => None,
         1 => Some(ScreenAdditionalData::Empty),
         2 => Some(ScreenAdditionalData::Selection(ScreenSelection {
             selection_text: text(image, LABEL)?,
-            value: image[NUMBERS],
-            min_value: image[NUMBERS + 1],
-            max_value: image[NUMBERS + 2],
-            default_value: image[NUMBERS + 3],
+            value: image[VALUE],
+            min_value: image[MIN],
+            max_value: image[MAX],
+            default_value: image[DEFAULT],
             unit: text(image, UNIT)?,
         })),
         _ => return None,
     };
-    let possible_values = match flag(image[HAS_VALUES])? {
-        true => Some(text(image, VALUES)?),
+    let possible_values = match flag(image[HAS_POSSIBLE_VALUES])? {
+        true => Some(text(image, POSSIBLE_VALUES)?),
         false => None,
     };
     Some(ScreenPopupFields {
@@ -119,15 +121,15 @@ pub fn fields(image: &[u8]) -> Option<ScreenPopupFields> {
 
 /// The places of items that are absent.
 pub fn absent(image: &Image) -> impl Iterator<Item = usize> {
-    let selection = if image[KIND] == 2 {
+    let selection = if image[ADDITIONAL] == 2 {
         0..0
     } else {
-        LABEL..HAS_VALUES
+        LABEL..HAS_POSSIBLE_VALUES
     };
-    let values = if image[HAS_VALUES] == 1 {
+    let values = if image[HAS_POSSIBLE_VALUES] == 1 {
         0..0
     } else {
-        VALUES..SIZE
+        POSSIBLE_VALUES..SIZE
     };
     selection.chain(values)
 }

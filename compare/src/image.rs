@@ -84,9 +84,10 @@ pub fn with(id: u8, sub: u8, values: &[&[u8]], stored: &[u8]) -> Image {
     image
 }
 
-pub fn color_bytes(color: &LedColor) -> [u8; 4] {
-    let [high, low] = color.hue.to_be_bytes();
-    [high, low, color.saturation, color.value]
+/// Hue, saturation and value as an image holds them.
+pub fn color_in_image((hue, saturation, value): (u16, u8, u8)) -> [u8; 4] {
+    let [high, low] = hue.to_be_bytes();
+    [high, low, saturation, value]
 }
 
 fn fc(command: &FcCommand) -> Image {
@@ -114,17 +115,18 @@ fn vtx(command: &VtxCommand) -> Image {
 }
 
 fn led(command: &LedCommand) -> Image {
+    let bytes = |color: &LedColor| color_in_image((color.hue, color.saturation, color.value));
     let timed = |sub: u8, time: &u16, colors: &[&LedColor]| {
         let mut values = [0; 10];
         values[..2].copy_from_slice(&time.to_be_bytes());
         for (place, color) in values[2..].chunks_exact_mut(4).zip(colors) {
-            place.copy_from_slice(&color_bytes(color));
+            place.copy_from_slice(&bytes(color));
         }
         with(LED, sub, &[&values], &[])
     };
     match command {
         LedCommand::SetDefault => with(LED, 0x01, &[], &[]),
-        LedCommand::OverrideColor(color) => with(LED, 0x02, &[&color_bytes(color)], &[]),
+        LedCommand::OverrideColor(color) => with(LED, 0x02, &[&bytes(color)], &[]),
         LedCommand::OverridePulse {
             duration_ms,
             start,

@@ -1,4 +1,5 @@
-//! What the comparison, the makers of stored answers and the benchmark share: both sides of the C boundary, and input for them.
+//! What the comparison, the makers of stored answers and the benchmark share: both sides of the C boundary and of the types over it,
+//! and input for them.
 pub mod both;
 pub mod cases;
 pub mod changes;
@@ -16,3 +17,4 @@ pub mod runs;
 pub mod side;
 pub mod stored;
 pub mod theirs;
+pub mod types;

@@ -1,7 +1,8 @@
 //! Popups by the lengths of their texts: as they lie in a payload, whatever the lengths, and as fields where the texts can be made.
-use uf_crsf::packets::{CommandString, ScreenAdditionalData, ScreenPopupFields, ScreenSelection};
+use uf_crsf::packets::ScreenPopupFields;
 
 use crate::random::Random;
+use crate::types;
 
 /// Text bytes may be any but 0.
 pub fn text(random: &mut Random, len: usize) -> Vec<u8> {
@@ -18,7 +19,7 @@ pub fn near(random: &mut Random, limits: &[usize]) -> usize {
     }
 }
 
-#[derive(Clone)]
+#[derive(Clone, Debug)]
 pub enum Additional {
     Absent,
     Empty,
@@ -29,7 +30,7 @@ pub enum Additional {
     },
 }
 
-#[derive(Clone)]
+#[derive(Clone, Debug)]
 pub struct Popup {
     pub header: Vec<u8>,
     pub info: Vec<u8>,
@@ -61,33 +62,10 @@ impl Popup {
 
     /// None where a text or the flag cannot be made.
     pub fn fields(&self) -> Option<ScreenPopupFields> {
-        let text = |bytes: &[u8]| CommandString::new(bytes).ok();
-        Some(ScreenPopupFields {
-            header: text(&self.header)?,
-            info: text(&self.info)?,
-            max_timeout_interval: self.timeout,
-            close_button_option: (self.close < 2).then_some(self.close == 1)?,
-            additional_data: match &self.additional {
-                Additional::Absent => None,
-                Additional::Empty => Some(ScreenAdditionalData::Empty),
-                Additional::Selection {
-                    label,
-                    numbers,
-                    unit,
-                } => Some(ScreenAdditionalData::Selection(ScreenSelection {
-                    selection_text: text(label)?,
-                    value: numbers[0],
-                    min_value: numbers[1],
-                    max_value: numbers[2],
-                    default_value: numbers[3],
-                    unit: text(unit)?,
-                })),
-            },
-            possible_values: match &self.values {
-                Some(values) => Some(text(values)?),
-                None => None,
-            },
-        })
+        if self.close > 1 {
+            return None;
+        }
+        types::rust::fields(self).ok()
     }
 
     /// Texts near 51 bytes, data near 55, a close flag that may be out of range.

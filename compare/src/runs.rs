@@ -1,7 +1,7 @@
 //! The comparison: each run gives one kind of input to both sides, in full, or at random for so many rounds from a seed.
 use crate::both::Both;
 use crate::image::{KINDS, SCREEN};
-use crate::popups;
+use crate::popups::{self, Popup};
 use crate::random::Random;
 use crate::side::Side;
 use crate::{cases, edit_cases, every, fields, image};
@@ -11,7 +11,7 @@ const LONGEST: usize = 70;
 
 pub type Run = for<'a> fn(&'a Side, u64, u64) -> Both<'a>;
 
-pub const ALL: [(&str, Run); 19] = [
+pub const ALL: [(&str, Run); 23] = [
     ("check, up to 2 bytes in full", short_checks),
     ("check, at random", random_checks),
     ("read, every id with up to 2 bytes of body", short_payloads),
@@ -31,6 +31,10 @@ pub const ALL: [(&str, Run); 19] = [
     ("ACK, at random", acks),
     ("popups of every length, fields, written", popups),
     ("popups, fields, at random", random_popups),
+    ("types, every sub-command alone", types_sub_commands),
+    ("types, read and written, near every kind", types_commands),
+    ("types, texts and ACKs, at random", types_made),
+    ("types, popups of every length, fields", types_popups),
 ];
 
 fn run<'a>(side: &'a Side, work: impl FnOnce(&mut Both<'a>)) -> Both<'a> {
@@ -232,5 +236,45 @@ pub fn popups(side: &Side, _: u64, seed: u64) -> Both<'_> {
                 }
             }
         })
+    })
+}
+
+pub fn types_sub_commands(side: &Side, _: u64, _: u64) -> Both<'_> {
+    run(side, |both| {
+        every::sub_commands(|payload| {
+            both.types_read(payload);
+            both.types_write(payload, None, LONGEST);
+        })
+    })
+}
+
+/// Near every kind: read, and written as it was read and with other numbers where writing judges them, into any length.
+pub fn types_commands(side: &Side, rounds: u64, seed: u64) -> Both<'_> {
+    at_random(side, rounds / 10, seed, |both, random| {
+        let kind = random.chosen(&KINDS);
+        let payload = cases::near_payload(random, kind);
+        let judged = cases::judged(random);
+        both.types_read(&payload);
+        both.types_write(&payload, None, random.below(LONGEST + 1));
+        both.types_write(&payload, Some(&judged), random.below(LONGEST + 1));
+    })
+}
+
+pub fn types_made(side: &Side, rounds: u64, seed: u64) -> Both<'_> {
+    at_random(side, rounds / 20, seed, |both, random| {
+        both.types_text(&cases::text_bytes(random));
+        let (ids, information) = cases::ack(random);
+        both.types_ack(ids, &information);
+    })
+}
+
+/// Those that are set out, then others at random.
+pub fn types_popups(side: &Side, rounds: u64, seed: u64) -> Both<'_> {
+    run(side, |both| {
+        let mut random = Random(seed);
+        popups::every(&mut random, |popup| both.types_popup(popup));
+        for _ in 0..rounds / 20 {
+            both.types_popup(&Popup::random(&mut random));
+        }
     })
 }

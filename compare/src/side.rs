@@ -1,6 +1,9 @@
-//! The C boundary as one value, so that either side, or a wrong one, can stand behind it.
+//! The C boundary and the types over it as one value, so that either side, or a wrong one, can stand behind it.
 //!
 //! Each function but the check answers a word: document 01's number in bits 0-7 (0: accepted), the count in bits 8-15.
+pub use crsf::boundary::{count, number};
+
+use crate::types::Types;
 
 /// What is given, and what is lent.
 pub type Lending = fn(&[u8], &mut [u8]) -> u32;
@@ -27,12 +30,6 @@ pub struct Side {
     pub popup_fields: Lending,
     /// Bytes, start.
     pub check: fn(&[u8], u8) -> u8,
-}
-
-pub fn number(word: u32) -> u8 {
-    word as u8
-}
-
-pub fn count(word: u32) -> usize {
-    (word >> 8 & 0xFF) as usize
+    /// What a Rust host uses.
+    pub types: Types,
 }

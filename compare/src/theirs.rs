@@ -11,6 +11,7 @@ use crate::edits;
 use crate::fields;
 use crate::image;
 use crate::side::Side;
+use crate::types::{self, Types};
 
 const LENGTH: u32 = 1;
 const OVERFLOW: u32 = 3;
@@ -94,14 +95,22 @@ fn read(payload: &[u8], record: &mut [u8]) -> u32 {
     hand_out(record, image)
 }
 
-/// What the Rust's own writer answers; refused, the buffer is put back.
-fn to_bytes(command: &DirectCommands, buffer: &mut [u8]) -> u32 {
+/// Where a write is refused, the buffer is put back.
+fn put_back<E>(
+    buffer: &mut [u8],
+    write: impl FnOnce(&mut [u8]) -> Result<usize, E>,
+) -> Result<usize, E> {
     let lent = buffer.to_vec();
-    let written = command.to_bytes(buffer);
+    let written = write(buffer);
     if written.is_err() {
         buffer.copy_from_slice(&lent);
     }
-    word(written)
+    written
+}
+
+/// What the Rust's own writer answers.
+fn to_bytes(command: &DirectCommands, buffer: &mut [u8]) -> u32 {
+    word(put_back(buffer, |buffer| command.to_bytes(buffer)))
 }
 
 fn write(record: &[u8], buffer: &mut [u8]) -> u32 {
@@ -158,19 +167,24 @@ fn edit(payload: &mut [u8], field: u32, number: u32) -> u32 {
     }
 }
 
-/// Each edit by itself.
-fn edit_list(payload: &mut [u8], list: &[u8], answers: &mut [u8]) -> u32 {
-    if list.len() % edits::SIZE != 0 {
+/// The edits of a list one after the other, each by what is given; before that, the refusals of the list's form.
+pub fn each_edit(list: &[u8], answers: &mut [u8], mut edit: impl FnMut(u32, u32) -> u32) -> u32 {
+    let whole = list.chunks_exact(edits::SIZE);
+    if !whole.remainder().is_empty() {
         return LENGTH;
     }
-    if answers.len() < list.len() / edits::SIZE {
+    if answers.len() < whole.len() {
         return OVERFLOW;
     }
-    for (one, answer) in list.chunks_exact(edits::SIZE).zip(answers) {
+    for (one, answer) in whole.zip(answers) {
         let (field, number) = edits::one_of_list(one);
-        *answer = edit(payload, field, number) as u8;
+        *answer = edit(field, number) as u8;
     }
     0
+}
+
+fn edit_list(payload: &mut [u8], list: &[u8], answers: &mut [u8]) -> u32 {
+    each_edit(list, answers, |field, number| edit(payload, field, number))
 }
 
 fn text(bytes: &[u8], text: &mut [u8]) -> u32 {
@@ -209,6 +223,21 @@ fn popup_fields(popup: &[u8], out: &mut [u8]) -> u32 {
     hand_out(out, image.map(|inspected| fields::of(&inspected)))
 }
 
+/// The Rust's types as a host uses them, but for the families left behind and what a refused write leaves.
+const TYPES: Types = Types {
+    read: |payload| match left_behind(payload) {
+        true => Err(LEFT_BEHIND as u8),
+        false => (types::rust::TYPES.read)(payload),
+    },
+    write: |payload, judged, buffer| match left_behind(payload) {
+        true => Err(LEFT_BEHIND as u8),
+        false => put_back(buffer, |buffer| {
+            (types::rust::TYPES.write)(payload, judged, buffer)
+        }),
+    },
+    ..types::rust::TYPES
+};
+
 pub const RUST: Side = Side {
     read,
     write,
@@ -220,4 +249,5 @@ pub const RUST: Side = Side {
     popup,
     popup_fields,
     check,
+    types: TYPES,
 };

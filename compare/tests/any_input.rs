@@ -1,9 +1,25 @@
 //! Any slice has an answer: none, a null pointer, too short a one for an image, and one far longer than a payload.
 use compare::both::LENT;
 use compare::edits;
-use compare::ours::{crsf_check, crsf_edit, crsf_edit_list, crsf_read, crsf_write, OURS};
+use compare::ours::OURS;
 use compare::side::Side;
 use compare::theirs::RUST;
+
+// No slice of Rust's has a null pointer, so that these are called as C calls them.
+extern "C" {
+    fn crsf_check(bytes: *const u8, len: usize, start: u8) -> u8;
+    fn crsf_read(payload: *const u8, len: usize, record: *mut u8, record_len: usize) -> u32;
+    fn crsf_write(record: *const u8, record_len: usize, buffer: *mut u8, len: usize) -> u32;
+    fn crsf_edit(payload: *mut u8, len: usize, field: u32, number: u32) -> u32;
+    fn crsf_edit_list(
+        payload: *mut u8,
+        len: usize,
+        edits: *const u8,
+        edits_len: usize,
+        answers: *mut u8,
+        answers_len: usize,
+    ) -> u32;
+}
 
 #[test]
 fn no_bytes_leave_the_start() {

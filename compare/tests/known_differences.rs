@@ -2,6 +2,10 @@
 use compare::both::LENT;
 use compare::cases::{payload, record};
 use compare::every::ADDRESSES;
+use compare::fields::{
+    self, ADDITIONAL, CLOSE, HAS_POSSIBLE_VALUES, HEADER, INFO, LABEL, POPUP_SIZE, POSSIBLE_VALUES,
+    TEXT_SIZE, UNIT,
+};
 use compare::image::{self, KINDS, STORED, STORED_LEN};
 use compare::ours::OURS;
 use compare::random::Random;
@@ -237,42 +241,41 @@ fn a_record_that_is_not_made_is_5() {
 /// Images of fields whose present texts, flags or kind are not made, and popups that no fields give: 5.
 #[test]
 fn fields_and_popups_that_are_not_made_are_5() {
-    const KIND: usize = 106;
-    let mut blank = [0; 268];
-    assert_eq!((OURS.popup)(&blank, &mut [0; 56]), 0);
+    let mut blank = [0; fields::SIZE];
+    assert_eq!((OURS.popup)(&blank, &mut [0; POPUP_SIZE]), 0);
     let of_kind = |kind: u8| {
         let mut fields = blank;
-        fields[KIND] = kind;
-        fields[107..109].copy_from_slice(&[1, b'l']);
+        fields[ADDITIONAL] = kind;
+        fields[LABEL..LABEL + 2].copy_from_slice(&[1, b'l']);
         fields
     };
     let selection = of_kind(2);
-    assert_eq!((OURS.popup)(&selection, &mut [0; 56]), 0);
+    assert_eq!((OURS.popup)(&selection, &mut [0; POPUP_SIZE]), 0);
     let with = |place: usize, byte: u8| {
         let mut fields = selection;
         fields[place] = byte;
         fields
     };
-    let mut wrong = vec![of_kind(3), with(105, 2), with(215, 2)];
-    let mut has_values = selection;
-    has_values[215] = 1;
-    for text in [0, 52, 107, 163, 216] {
-        for change in [(0, 52), (0, 3), (51, b'x')] {
+    let mut wrong = vec![of_kind(3), with(CLOSE, 2), with(HAS_POSSIBLE_VALUES, 2)];
+    let has_values = with(HAS_POSSIBLE_VALUES, 1);
+    for text in [HEADER, INFO, LABEL, UNIT, POSSIBLE_VALUES] {
+        // a length beyond the text, a length with zeros in it, a byte behind the text
+        for (place, byte) in [(0, 52), (0, 3), (TEXT_SIZE - 1, b'x')] {
             let mut fields = has_values;
-            fields[text + change.0] = change.1;
+            fields[text + place] = byte;
             wrong.push(fields);
         }
     }
     for fields in wrong {
-        let mut lent = [LENT; 56];
+        let mut lent = [LENT; POPUP_SIZE];
         assert_eq!((OURS.popup)(&fields, &mut lent), 5, "{fields:02X?}");
-        assert_eq!(lent, [LENT; 56]);
+        assert_eq!(lent, [LENT; POPUP_SIZE]);
         assert_eq!((RUST.popup)(&fields, &mut lent), 5, "{fields:02X?}");
     }
     // absent items are not looked at
-    blank[107..215].fill(0xFF);
-    blank[216..].fill(0xFF);
-    assert_eq!((OURS.popup)(&blank, &mut [0; 56]), 0);
+    blank[LABEL..HAS_POSSIBLE_VALUES].fill(0xFF);
+    blank[POSSIBLE_VALUES..].fill(0xFF);
+    assert_eq!((OURS.popup)(&blank, &mut [0; POPUP_SIZE]), 0);
 
     let popups: [&[u8]; 5] = [
         b"",
@@ -282,11 +285,10 @@ fn fields_and_popups_that_are_not_made_are_5() {
         b"H\0I\0\x1E\x01\0V\0x",
     ];
     for bytes in popups {
-        let mut popup = [0; 56];
-        popup[0] = bytes.len() as u8;
-        popup[1..=bytes.len()].copy_from_slice(bytes);
-        let mut lent = [LENT; 268];
+        let mut popup = [0; POPUP_SIZE];
+        fields::put_stored(&mut popup, bytes);
+        let mut lent = [LENT; fields::SIZE];
         assert_eq!((OURS.popup_fields)(&popup, &mut lent), 5, "{bytes:02X?}");
-        assert_eq!(lent, [LENT; 268]);
+        assert_eq!(lent, [LENT; fields::SIZE]);
     }
 }

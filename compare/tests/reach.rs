@@ -71,6 +71,29 @@ fn constructors_accept_and_refuse() {
     assert!(popups.is_superset(&BTreeSet::from(lengths)), "{popups:?}");
 }
 
+/// With other numbers a command that was read is written, refused for its values and refused for its room.
+#[test]
+fn changed_commands_have_every_answer() {
+    let mut random = Random(1);
+    let mut reached = BTreeSet::new();
+    for _ in 0..30 * ROUNDS {
+        let (id, sub, len) = random.chosen(&KINDS);
+        let payload = cases::near_payload(&mut random, (id, sub, len));
+        if (RUST.types.read)(&payload).is_ok() && payload[2] == id {
+            let mut buffer = vec![0; random.below(71)];
+            let judged = cases::judged(&mut random);
+            let word = (RUST.types.write)(&payload, Some(&judged), &mut buffer);
+            reached.insert((id, word.err()));
+        }
+    }
+    for id in image::FAMILIES {
+        assert!(reached.contains(&(id, None)), "{id:02X}");
+        assert!(reached.contains(&(id, Some(3))), "{id:02X}");
+        let judged = matches!(id, 0x08 | 0x09 | 0xFF);
+        assert_eq!(reached.contains(&(id, Some(2))), judged, "{id:02X}");
+    }
+}
+
 /// Of every field: accepted at both ends of its range, and refused by each number that comes after reading.
 #[test]
 fn every_field_is_edited_and_refused() {

@@ -2,7 +2,7 @@
 use compare::edits;
 use compare::image::{ACK, LED, SCREEN, VTX};
 use compare::runs::{self, Run};
-use compare::theirs::{payload_check, RUST};
+use compare::theirs::{each_edit, payload_check, RUST};
 
 pub type Edit = fn(&mut [u8], u32, u32) -> u32;
 pub type EditList = fn(&mut [u8], &[u8], &mut [u8]) -> u32;
@@ -459,7 +459,7 @@ pub const EDITORS: &[(&str, Run, Edit)] = &[
         },
     ),
     (
-        "a popup with Empty has a selection's value",
+        "a popup without a selection has its value",
         runs::set_edits,
         |payload, field, number| match (RUST.edit)(payload, field, number) {
             7 if field == 72 && payload[2..4] == [SCREEN, 0x01] => 0,
@@ -493,25 +493,10 @@ pub const EDITORS: &[(&str, Run, Edit)] = &[
     ),
 ];
 
-/// The edits of a list one after the other, each by what is given.
-fn each(list: &[u8], answers: &mut [u8], mut edit: impl FnMut(u32, u32) -> u32) -> u32 {
-    if list.len() % 8 != 0 {
-        return 1;
-    }
-    if answers.len() < list.len() / 8 {
-        return 3;
-    }
-    for (one, answer) in list.chunks_exact(8).zip(answers) {
-        let (field, number) = edits::one_of_list(one);
-        *answer = edit(field, number) as u8;
-    }
-    0
-}
-
 pub const LISTS: &[(&str, EditList)] = &[
     ("only the first edit", |payload, list, answers| {
         let mut first = true;
-        each(list, answers, |field, number| {
+        each_edit(list, answers, |field, number| {
             match std::mem::take(&mut first) {
                 true => (RUST.edit)(payload, field, number),
                 false => 0,
@@ -520,7 +505,7 @@ pub const LISTS: &[(&str, EditList)] = &[
     }),
     ("only the last edit", |payload, list, answers| {
         let mut left = list.len() / 8;
-        each(list, answers, |field, number| {
+        each_edit(list, answers, |field, number| {
             left -= 1;
             let mut copy = payload.to_vec();
             let word = (RUST.edit)(&mut copy, field, number);
@@ -532,7 +517,7 @@ pub const LISTS: &[(&str, EditList)] = &[
     }),
     ("none behind a refused edit", |payload, list, answers| {
         let mut refused = 0;
-        each(list, answers, |field, number| {
+        each_edit(list, answers, |field, number| {
             if refused == 0 {
                 refused = (RUST.edit)(payload, field, number);
             }
@@ -551,7 +536,7 @@ pub const LISTS: &[(&str, EditList)] = &[
         "each from the payload as it was",
         |payload, list, answers| {
             let before = payload.to_vec();
-            each(list, answers, |field, number| {
+            each_edit(list, answers, |field, number| {
                 let mut copy = before.clone();
                 let word = (RUST.edit)(&mut copy, field, number);
                 if word == 0 {
@@ -565,7 +550,7 @@ pub const LISTS: &[(&str, EditList)] = &[
         "the check of the first edit left",
         |payload, list, answers| {
             let mut check = None;
-            each(list, answers, |field, number| {
+            each_edit(list, answers, |field, number| {
                 if let Some(check) = check {
                     close(payload);
                     let word = (RUST.edit)(payload, field, number);
@@ -676,12 +661,12 @@ pub const LISTS: &[(&str, EditList)] = &[
         word
     }),
     ("numbers from their low byte", |payload, list, answers| {
-        each(list, answers, |field, number| {
+        each_edit(list, answers, |field, number| {
             (RUST.edit)(payload, field, number.swap_bytes())
         })
     }),
     ("number, then field", |payload, list, answers| {
-        each(list, answers, |field, number| {
+        each_edit(list, answers, |field, number| {
             (RUST.edit)(payload, number, field)
         })
     }),

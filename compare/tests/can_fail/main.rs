@@ -4,6 +4,7 @@ mod checks;
 mod editors;
 mod makers;
 mod readers;
+mod types;
 mod writers;
 
 use compare::runs::{self, Run};
@@ -79,5 +80,12 @@ fn a_wrong_edit_is_seen() {
 fn a_wrong_list_of_edits_is_seen() {
     for &(what, edit_list) in editors::LISTS {
         is_seen(what, runs::edit_lists, &Side { edit_list, ..RUST });
+    }
+}
+
+#[test]
+fn a_wrong_type_is_seen() {
+    for &(what, run, types) in types::TYPES {
+        is_seen(what, run, &Side { types, ..RUST });
     }
 }

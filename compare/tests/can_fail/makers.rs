@@ -1,4 +1,5 @@
 //! Wrong in constructing, inspecting, or writing again.
+use compare::fields::{ADDITIONAL, DEFAULT, LABEL, MAX};
 use compare::runs::{self, Run};
 use compare::side::Side;
 use compare::theirs::RUST;
@@ -101,7 +102,7 @@ pub const MAKERS: &[(&str, Run, Side)] = &[
         runs::popups,
         Side {
             popup: |fields, popup| match (RUST.popup)(fields, popup) {
-                2 if fields[106] == 0 => 1,
+                2 if fields[ADDITIONAL] == 0 => 1,
                 word => word,
             },
             ..RUST
@@ -112,7 +113,7 @@ pub const MAKERS: &[(&str, Run, Side)] = &[
         runs::popups,
         Side {
             popup: |fields, popup| match (RUST.popup)(fields, popup) {
-                2 if fields[106] == 2 => 1,
+                2 if fields[ADDITIONAL] == 2 => 1,
                 word => word,
             },
             ..RUST
@@ -123,7 +124,7 @@ pub const MAKERS: &[(&str, Run, Side)] = &[
         runs::random_popups,
         Side {
             popup: |fields, popup| {
-                if fields[106] < 2 && fields[107] > 51 {
+                if fields[ADDITIONAL] < 2 && fields[LABEL] > 51 {
                     5
                 } else {
                     (RUST.popup)(fields, popup)
@@ -138,8 +139,8 @@ pub const MAKERS: &[(&str, Run, Side)] = &[
         Side {
             popup_fields: |popup, fields| {
                 let word = (RUST.popup_fields)(popup, fields);
-                if fields[106] == 1 {
-                    fields[106] = 0;
+                if fields[ADDITIONAL] == 1 {
+                    fields[ADDITIONAL] = 0;
                 }
                 word
             },
@@ -152,7 +153,7 @@ pub const MAKERS: &[(&str, Run, Side)] = &[
         Side {
             popup_fields: |popup, fields| {
                 let word = (RUST.popup_fields)(popup, fields);
-                fields.swap(161, 162);
+                fields.swap(MAX, DEFAULT);
                 word
             },
             ..RUST

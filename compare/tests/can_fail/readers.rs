@@ -155,11 +155,15 @@ pub const READERS: &[(&str, Run, Lending)] = &[
         runs::random_payloads,
         |payload, record| read_but(payload, record, |_, _| (payload.len() == 60).then_some(1)),
     ),
-    ("61 bytes read", runs::random_payloads, |payload, record| {
-        read_but(payload, record, |word, _| {
-            (word == 1 && payload.len() == 61).then_some(2)
-        })
-    }),
+    (
+        "61 bytes are 2",
+        runs::random_payloads,
+        |payload, record| {
+            read_but(payload, record, |word, _| {
+                (word == 1 && payload.len() == 61).then_some(2)
+            })
+        },
+    ),
     (
         "a wrong check not seen",
         runs::random_payloads,

@@ -1,2 +1,3 @@
 pub mod Laws
 pub mod OneAnswer
+pub mod RuledOut

@@ -5,7 +5,6 @@ use mathlib.Core.List.{List}
 use lib.ListN.{length}
 use Rattle.codec.specs.Sheet.{Answer, got, refused, andThen}
 use Rattle.codec.specs.Writing.{counted, leaves}
-use Rattle.commands.specs.Reading.{readCommand}
 use Rattle.commands.specs.Writing.{payloadOf, stopWriting}
 use Rattle.commands.specs.declared.DirectCommands.{DirectCommands}
 

@@ -3,7 +3,7 @@ use Prim.Native.Nat.{ℕ, zero, suc, _+_, _*_, _/_, _%_, _^_, _<_}
 use mathlib.Core.List.{List, [], _∷_}
 use mathlib.Core.Path.{_≡_, refl, ap, sym, _∙_}
 use native.Mathlib.Omega.{arith}
-use native.Mathlib.Nat.{mod-eq-of-lt, mod-lt, mul-assoc, mul-add-div-right, mul-add-mod-self-right, mod-one}
+use native.Mathlib.Nat.{mod-eq-of-lt, mul-assoc, mul-add-div-right, mul-add-mod-self-right, mod-one}
 use lib.Arith.{digits-lt, digits-div, mod-mul}
 use lib.Pow.{pow-pos, pow-add}
 use lib.ListN.{length, replicate, length-replicate}
@@ -45,10 +45,6 @@ join-split (b ∷ bs) n =
 pub length-split : (bs : List ℕ) (n : ℕ) → length (split bs n) ≡ length bs
 length-split [] n = refl
 length-split (b ∷ bs) n = ap suc (length-split bs n)
-
-pub fit-split : (bs : List ℕ) (n : ℕ) → Fit bs (split bs n)
-fit-split [] n = tt
-fit-split (b ∷ bs) n = (mod-lt (n / 2 ^ sum bs) (pow-pos b), fit-split bs n)
 
 pub sum-eights : (w : ℕ) → sum (replicate w 8) ≡ 8 * w
 sum-eights zero = refl

@@ -4,7 +4,6 @@ pub mod Same
 pub mod Loops
 pub mod Items
 pub mod Texts
-pub mod Puts
 pub mod Stops
 pub mod Patch
 pub mod Narrow
@@ -21,3 +20,5 @@ pub mod Outcomes
 pub mod Bounds
 pub mod ReadJoin
 pub mod There
+pub mod Lent
+pub mod RuledOut

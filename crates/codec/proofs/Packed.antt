@@ -77,14 +77,8 @@ byte-item n h = rw (alone n) (byte-bytes n h)
 pub byte-ok : (n : ℕ) → n < 256 → okItem byte (n ∷ []) ≡ true
 byte-ok n h = rw (ltb-zero n, le-ltb 255 n (omega arith))
 
-pub number-item : (w lo hi n : ℕ) → itemBytes (number w lo hi) (n ∷ []) ≡ bytesOf w n
-number-item w lo hi n = rw (alone n)
-
 pub number-ok : (w lo hi n : ℕ) → lo ≤ n → n ≤ hi → okItem (number w lo hi) (n ∷ []) ≡ true
 number-ok w lo hi n g h = rw (le-ltb n lo g, le-ltb hi n h)
-
-pub number-under : (w lo hi n : ℕ) → n < lo → okItem (number w lo hi) (n ∷ []) ≡ false
-number-under w lo hi n h = rw (lt-ltb n lo h)
 
 pub number-over : (w lo hi n : ℕ) → hi < n → okItem (number w lo hi) (n ∷ []) ≡ false
 number-over w lo hi n h = by (ltb n lo)

@@ -4,8 +4,8 @@ use mathlib.Core.Bool.{true, false}
 use mathlib.Core.List.{List, [], _∷_, _++_}
 use mathlib.Core.Path.{_≡_, refl, ap, sym, _∙_}
 use native.Mathlib.Omega.{arith}
-use lib.ListN.{length, take, drop, getD, set, length-append, length-set, length-drop}
-use lib.Seq.{sets, sets-eq, set-append-left, take-at, drop-at, drop-append-add, drop-append-le, take-append-le}
+use lib.ListN.{length, take, drop, getD, set, length-append, length-set}
+use lib.Seq.{sets, sets-eq, set-append-left, take-at, drop-at, drop-append-add}
 use lib.Dec.{ltb, leb}
 use Rattle.codec.specs.Pick.{pick}
 use Rattle.codec.specs.Digits.{sum, join, split, numberOf, bytesOf}
@@ -139,22 +139,3 @@ place-room [] vs i l h = absurd (omega arith)
 place-room (t ∷ is) [] i l h = absurd (omega arith)
 place-room (t ∷ is) (v ∷ vs) zero l h = rw (length-append, size-is) (omega arith)
 place-room (t ∷ is) (v ∷ vs) (suc i) l h = rw (length-append, size-is) (omega (arith, place-room is vs i (omega arith) (omega arith)))
-
--- the same inside a payload: bytes before the items and behind them stay
-pub patch-in : (hd post : List ℕ) (is : List Item) (vs : List (List ℕ)) (i j n w : ℕ) (fs : List Field)
-    → soundItems is ≡ true → okItems is vs ≡ true → i < length is → getD is i (text 0 0) ≡ packed w fs → j < length (widths fs)
-    → sets (hd ++ (writeItems is vs ++ post)) (length hd + placeOf is vs i)
-    (bytesOf w (replaced (2 ^ below (widths fs) j) (2 ^ getD (widths fs) j 0)
-    (numberOf (take w (drop (length hd + placeOf is vs i) (hd ++ (writeItems is vs ++ post))))) n))
-    ≡ hd ++ (writeItems is (setValue vs i j n) ++ post)
-patch-in hd post is vs i j n w fs s o h e l =
-    let b = writeItems is vs in
-    let p = placeOf is vs i in
-    let r : p + w ≤ length b = rw e at (place-room is vs i (ok-length is vs o) h) in
-    let k : w ≤ length (drop p b) = rw length-drop (omega arith) in
-    let q : p ≤ length b = omega arith in
-    let x : take w (drop (length hd + p) (hd ++ (b ++ post))) ≡ take w (drop p b) =
-    rw (drop-append-add hd (b ++ post) p, drop-append-le p b post q, take-append-le w (drop p b) post k) in
-    let y = replaced (2 ^ below (widths fs) j) (2 ^ getD (widths fs) j 0) (numberOf (take w (drop p b))) n in
-    let m : p + length (bytesOf w y) ≤ length b = rw (length-bytesOf w y) r in
-    rw (x, sets-right hd (b ++ post) (bytesOf w y) p, sets-left b post (bytesOf w y) p m, patch is vs i j n w fs s o h e l)

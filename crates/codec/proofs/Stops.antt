@@ -14,17 +14,6 @@ use Rattle.codec.specs.Writing.{okItem, okItems, itemBytes, writeItems, 
 use Rattle.codec.specs.Sound.{known, hasRow, soundRows}
 use Rattle.codec.proofs.Back.{size-is, both, body-back}
 
--- an item is judged, then its room, then what follows
-pub stopped : (o l : Bool) (n x : ℕ) → n ≡ pick o (pick l 3 0) 2 → (n ≡ 0 → ⊥) → n ≡ pick o (pick l 3 x) 2
-stopped true true n x e h = e
-stopped true false n x e h = absurd (h e)
-stopped false l n x e h = e
-
-pub went-on : (o l : Bool) (n x : ℕ) → n ≡ pick o (pick l 3 0) 2 → n ≡ 0 → pick o (pick l 3 x) 2 ≡ x
-went-on true true n x e h = absurd (omega arith)
-went-on true false n x e h = refl
-went-on false l n x e h = absurd (omega arith)
-
 -- room for less is no further test
 pub room-again : (room a b x : ℕ) → a ≤ b → pick (ltb room a) 3 (pick (ltb room b) 3 x) ≡ pick (ltb room b) 3 x
 room-again room a b x h = by (ltb room a) refl

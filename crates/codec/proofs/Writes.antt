@@ -11,7 +11,7 @@ use borrow.Author.Tests.{le-ltb, lt-ltb, ltb-true, ltb-false}
 use Rattle.codec.specs.Pick.{pick}
 use Rattle.codec.specs.Digits.{bytesOf}
 use Rattle.codec.specs.Sheet.{Row, said, Answer, got, refused, first}
-use Rattle.codec.specs.Writing.{okItems, itemsOf, writeBody, counted, leaves, putAt, stopRoom, stopInOrder, stopValuesFirst}
+use Rattle.codec.specs.Writing.{okItems, itemsOf, writeBody, counted, putAt, stopRoom, stopInOrder, stopValuesFirst}
 use Rattle.codec.specs.Refusals.{refusalNumber}
 use Rattle.codec.specs.Told.{toldNumber, toldFlag, toldWritten, Writes}
 use Rattle.codec.specs.declared.refusal.Refusal.{Refusal}
@@ -102,10 +102,6 @@ length-put s at w = by (ltb (length s) (at + length w))
     by : (t : Bool) → length (pick t s (sets s at w)) ≡ length s
     by true = refl
     by false = length-sets s at w
-
-pub length-leaves : (stop : ℕ) (w s : List ℕ) → length (leaves stop w s) ≡ length s
-length-leaves zero w s = length-sets s 0 w
-length-leaves (suc k) w s = refl
 
 -- ---- the test whether bytes at a place go beyond a length
 pub beyond-is : (len at n : ℕ) → n ≤ len → ltb (len - n) at ≡ ltb len (at + n)

@@ -3,12 +3,12 @@ use Prim.Native.Nat.{ℕ, _+_, _*_, _/_, _%_, _^_}
 use mathlib.Core.List.{List, [], _∷_}
 use lib.ListN.{length, replicate}
 
--- the bits of all the digits
+-- how many bits all the digits have
 abbrev pub sum : List ℕ → ℕ
 sum [] = 0
 sum (b ∷ bs) = b + sum bs
 
--- the number of the digits
+-- the number that these digits make
 abbrev pub join : List ℕ → List ℕ → ℕ
 join [] vs = 0
 join (b ∷ bs) [] = 0

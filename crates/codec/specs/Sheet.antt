@@ -60,6 +60,6 @@ abbrev pub first : List ℕ → ℕ
 first [] = 0
 first (v ∷ vs) = v
 
--- the number of item i
+-- the first value of item i
 abbrev pub itemNumber : List (List ℕ) → ℕ → ℕ
 itemNumber vs i = first (getD vs i [])

@@ -42,11 +42,12 @@ abbrev pub toldFlag : FlagRead → Answer (List ℕ)
 toldFlag (GotFlag b) = got (bit b ∷ [])
 toldFlag (RefusedFlag r) = refused (refusalNumber r) 0
 
--- a text at a place of s: its bytes, and the place after its 00
+-- a text at a place of s: its bytes
 abbrev pub toldText : List ℕ → ℕ → TextRead → Answer (List ℕ)
 toldText s at (GotText n next) = got (take n (drop at s))
 toldText s at (RefusedText r) = refused (refusalNumber r) 0
 
+-- they are there, and next is the place after their 00
 abbrev pub textIn : List ℕ → ℕ → TextRead → Type 0
 textIn s at (GotText n next) = (at + n < length s) × (next ≡ at + (n + 1))
 textIn s at (RefusedText r) = Unit {0}

@@ -76,12 +76,3 @@ leaves (suc k) w s = s
 -- bytes put at a place where all of them have room; else none is
 abbrev pub putAt : List ℕ → ℕ → List ℕ → List ℕ
 putAt s at w = pick (ltb (length s) (at + length w)) s (sets s at w)
-
--- the items put one after the other into bytes that are there, from a place
-abbrev pub putItems : List Item → List (List ℕ) → ℕ → List ℕ → List ℕ
-putItems [] vs at s = s
-putItems (i ∷ is) [] at s = s
-putItems (i ∷ is) (v ∷ vs) at s = putItems is vs (at + sizeOf i v) (sets s at (itemBytes i v))
-
-abbrev pub putBody : List Row → Said → ℕ → List ℕ → List ℕ
-putBody rs (said sub vs) at s = putItems (itemsOf rs sub) vs (at + 1) (sets s at (sub ∷ []))

@@ -1,4 +1,4 @@
-// Items at a position of a slice; a position past the end is a missing byte.
+// Items read from a slice and a position, a position past the end being a missing byte; or taken from the front by a Reader.
 ghost use mathlib.Core.Path.{_≡_};
 ghost use Prim.Native.Nat.{_≤_, _<_, _+_, _*_, _^_};
 ghost use lib.ListN.{length, take, drop};
@@ -72,14 +72,14 @@ fn number_at(s: &[u8], at: usize, w: usize) -> u32
 }
 
 // A number of a width, within low and high.
-pub fn read_number(s: &[u8], at: usize, w: Width, low: u32, high: u32) -> NumberRead
-    ensures { λ r. ⌜ (toldNumber r ≡ readItem (number (widthOf w) low high) (drop at (now (s .entry)))) × atMost high r ⌝ }
+pub fn read_number(bytes: &[u8], at: usize, width: Width, low: u32, high: u32) -> NumberRead
+    ensures { λ r. ⌜ (toldNumber r ≡ readItem (number (widthOf width) low high) (drop at (now (bytes .entry)))) × atMost high r ⌝ }
 {
-    let count = bytes_of(w);
-    if beyond(s.len(), at, count) {
+    let count = bytes_of(width);
+    if beyond(bytes.len(), at, count) {
         return NumberRead::Refused(Refusal::InvalidPayloadLength);
     }
-    let n = number_at(s, at, count);
+    let n = number_at(bytes, at, count);
     if n < low {
         return NumberRead::Refused(Refusal::InvalidPayload);
     }
@@ -89,10 +89,10 @@ pub fn read_number(s: &[u8], at: usize, w: Width, low: u32, high: u32) -> Number
     NumberRead::Got(n)
 }
 
-pub fn read_flag(s: &[u8], at: usize) -> FlagRead
-    ensures { λ r. ⌜ toldFlag r ≡ readItem flag (drop at (now (s .entry))) ⌝ }
+pub fn read_flag(bytes: &[u8], at: usize) -> FlagRead
+    ensures { λ r. ⌜ toldFlag r ≡ readItem flag (drop at (now (bytes .entry))) ⌝ }
 {
-    match read_number(s, at, Width::One, 0, 1) {
+    match read_number(bytes, at, Width::One, 0, 1) {
         NumberRead::Got(n) => FlagRead::Got(n == 1),
         NumberRead::Refused(r) => FlagRead::Refused(r),
     }
@@ -114,14 +114,14 @@ fn end_of(s: &[u8], at: usize) -> usize
 }
 
 // A text of at most so many bytes.
-pub fn read_text(s: &[u8], at: usize, most: usize) -> TextRead
-    ensures { λ r. ⌜ (toldText (now (s .entry)) at r ≡ readItem (text 0 most) (drop at (now (s .entry)))) × textIn (now (s .entry)) at r ⌝ }
+pub fn read_text(bytes: &[u8], at: usize, most: usize) -> TextRead
+    ensures { λ r. ⌜ (toldText (now (bytes .entry)) at r ≡ readItem (text 0 most) (drop at (now (bytes .entry)))) × textIn (now (bytes .entry)) at r ⌝ }
 {
-    if s.len() <= at {
+    if bytes.len() <= at {
         return TextRead::Refused(Refusal::InvalidPayloadLength);
     }
-    let end = end_of(s, at);
-    if s.len() <= end {
+    let end = end_of(bytes, at);
+    if bytes.len() <= end {
         return TextRead::Refused(Refusal::InvalidPayloadLength);
     }
     if most < end - at {
@@ -130,5 +130,41 @@ pub fn read_text(s: &[u8], at: usize, most: usize) -> TextRead
     TextRead::Got {
         len: end - at,
         next: end + 1,
+    }
+}
+
+// The bytes behind the first item of a width; none where there are fewer.
+fn behind(s: &[u8], w: Width) -> &[u8]
+    ensures { λ r. ⌜ now r ≡ drop (widthOf w) (now (s .entry)) ⌝ }
+{
+    let n = bytes_of(w);
+    let len = s.len();
+    if len < n {
+        return &s[len..];
+    }
+    &s[n..]
+}
+
+// The Rust's Reader: it holds the bytes still to come, and an item is taken from their front. Where bytes are missing none are left
+// to come, while the Rust's keeps them; no caller looks at what is read after a refusal.
+pub struct Reader<'a> {
+    pub remaining: &'a [u8],
+}
+
+impl<'a> Reader<'a> {
+    pub fn new(bytes: &'a [u8]) -> Reader<'a>
+        ensures { λ r. ⌜ r .remaining ≡ bytes .entry ⌝ }
+    {
+        Reader { remaining: bytes }
+    }
+
+    // The Rust's byte, u16 and u32: a number of a width, within low and high.
+    pub fn number(&mut self, width: Width, low: u32, high: u32) -> NumberRead
+        ensures { λ r. ⌜ ((toldNumber r ≡ readItem (number (widthOf width) low high) (now (now (self .entry) .remaining))) × atMost high r) × (now (now (self .exit) .remaining) ≡ drop (widthOf width) (now (now (self .entry) .remaining))) ⌝ }
+    {
+        let s = self.remaining;
+        let got = read_number(s, 0, width, low, high);
+        self.remaining = behind(s, width);
+        got
     }
 }

@@ -19,7 +19,7 @@ pub enum Written {
     Refused(Refusal),
 }
 
-// Whether a room has room for n bytes.
+// 3 unless n bytes have room, else the count n.
 fn room_for(room: usize, n: usize) -> Written
     ensures { λ r. ⌜ toldWritten r ≡ counted (stopRoom room n) n ⌝ }
 {
@@ -30,7 +30,7 @@ fn room_for(room: usize, n: usize) -> Written
     }
 }
 
-// Values first, then room: VTX and ACK.
+// 2 unless ok, then 3 unless n bytes have room: VTX, ACK, and each colour of LED.
 pub fn values_first(ok: bool, room: usize, n: usize) -> Written
     ensures { λ r. ⌜ toldWritten r ≡ counted (pick ok (stopRoom room n) 2) n ⌝ }
 {
@@ -62,14 +62,14 @@ fn put_back(s: &mut [u8], at: usize, w: usize, v: u32)
 }
 
 // A number in a width's bytes, where they have room.
-pub fn put_number(s: &mut [u8], at: usize, w: Width, v: u32)
-    ensures { λ r. ⌜ now (s .exit) ≡ putAt (now (s .entry)) at (bytesOf (widthOf w) v) ⌝ }
+pub fn put_number(buffer: &mut [u8], at: usize, width: Width, value: u32)
+    ensures { λ r. ⌜ now (buffer .exit) ≡ putAt (now (buffer .entry)) at (bytesOf (widthOf width) value) ⌝ }
 {
-    let count = bytes_of(w);
-    if beyond(s.len(), at, count) {
+    let count = bytes_of(width);
+    if beyond(buffer.len(), at, count) {
         return;
     }
-    put_back(s, at, count, v);
+    put_back(buffer, at, count, value);
 }
 
 fn put_each(s: &mut [u8], at: usize, t: &[u8])
@@ -84,34 +84,34 @@ fn put_each(s: &mut [u8], at: usize, t: &[u8])
 }
 
 // Bytes as they are, where they have room.
-pub fn put_bytes(s: &mut [u8], at: usize, t: &[u8])
-    ensures { λ r. ⌜ now (s .exit) ≡ putAt (now (s .entry)) at (now (t .entry)) ⌝ }
+pub fn put_bytes(buffer: &mut [u8], at: usize, bytes: &[u8])
+    ensures { λ r. ⌜ now (buffer .exit) ≡ putAt (now (buffer .entry)) at (now (bytes .entry)) ⌝ }
 {
-    if beyond(s.len(), at, t.len()) {
+    if beyond(buffer.len(), at, bytes.len()) {
         return;
     }
-    put_each(s, at, t);
+    put_each(buffer, at, bytes);
 }
 
 // A body that is a sub-command alone.
-pub fn write_alone(sub: u8, s: &mut [u8]) -> Written
-    ensures { λ r. ⌜ Writes (stopRoom (length (now (s .entry))) 1) (sub ∷ []) r (now (s .entry)) (now (s .exit)) ⌝ }
+pub fn write_alone(sub: u8, buffer: &mut [u8]) -> Written
+    ensures { λ r. ⌜ Writes (stopRoom (length (now (buffer .entry))) 1) (sub ∷ []) r (now (buffer .entry)) (now (buffer .exit)) ⌝ }
 {
-    if s.len() < 1 {
+    if buffer.len() < 1 {
         return Written::Refused(Refusal::BufferOverflow);
     }
-    s[0] = sub;
+    buffer[0] = sub;
     Written::Count(1)
 }
 
 // A body that is a sub-command and one byte.
-pub fn write_with_byte(sub: u8, v: u8, s: &mut [u8]) -> Written
-    ensures { λ r. ⌜ Writes (stopRoom (length (now (s .entry))) 2) (sub ∷ v ∷ []) r (now (s .entry)) (now (s .exit)) ⌝ }
+pub fn write_with_byte(sub: u8, value: u8, buffer: &mut [u8]) -> Written
+    ensures { λ r. ⌜ Writes (stopRoom (length (now (buffer .entry))) 2) (sub ∷ value ∷ []) r (now (buffer .entry)) (now (buffer .exit)) ⌝ }
 {
-    if s.len() < 2 {
+    if buffer.len() < 2 {
         return Written::Refused(Refusal::BufferOverflow);
     }
-    s[0] = sub;
-    s[1] = v;
+    buffer[0] = sub;
+    buffer[1] = value;
     Written::Count(2)
 }

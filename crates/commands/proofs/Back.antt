@@ -1,5 +1,5 @@
 -- What is written reads back as the same command. Assumes nothing.
-use Prim.Native.Nat.{ℕ, zero, suc, _-_, _≤_, _<_}
+use Prim.Native.Nat.{ℕ, _-_, _≤_, _<_}
 use mathlib.Core.Bool.{Bool, true, false}
 use mathlib.Core.List.{List, [], _∷_, _++_, append-nil}
 use mathlib.Core.Path.{_≡_, refl, ap, sym, subst, _∙_}
@@ -9,7 +9,7 @@ use lib.Dec.{ltb, leb}
 use borrow.Author.Tests.{ltb-false, leb-true}
 use Rattle.crc.specs.Check.{Bytes}
 use Rattle.codec.specs.Pick.{pick}
-use Rattle.codec.specs.Sheet.{Answer, got, refused, andThen, Row, Said}
+use Rattle.codec.specs.Sheet.{Answer, got, andThen, Row, Said}
 use Rattle.codec.specs.Reading.{readBody}
 use Rattle.codec.specs.Writing.{writeBody, writeItems}
 use Rattle.families.specs.Sheets.{fcRows, osdRows, vtxRows, ledRows, generalRows, crossfireRows, flowRows}
@@ -23,7 +23,7 @@ use Rattle.families.specs.FlowControl.{flowSays, flowOf}
 use Rattle.families.specs.Text.{padded, madeBytes}
 use Rattle.families.specs.Ack.{ackItems, ackSays, readAck}
 use Rattle.families.specs.Popup.{Popup, writePopup}
-use Rattle.families.specs.Fields.{construct, unless, stopPopup, popupSays, popupOf, madeTexts, madePopup, headSays, moreSays, valuesSays}
+use Rattle.families.specs.Fields.{construct, popupSays, popupOf, madePopup, headSays, moreSays, valuesSays}
 use Rattle.families.specs.Screen.{started, readScreen, screenBody}
 use Rattle.families.specs.Payload.{familyId}
 use Rattle.families.specs.declared.fc.FcCommand.{FcCommand}
@@ -44,12 +44,12 @@ use Rattle.families.proofs.RoundTrip.{fc-back, osd-back, vtx-back, led-back, ge
 use Rattle.families.proofs.TextLaws.{made-stands}
 use Rattle.families.proofs.Answered.{unpadded}
 use Rattle.families.proofs.Acks.{ack-back}
-use Rattle.families.proofs.Made.{made-decided, says-fit}
+use Rattle.families.proofs.Made.{made-decided, constructed}
 use Rattle.families.proofs.ScreenBack.{start-back, return-back, return-is}
-use Rattle.commands.specs.Command.{Kept, kept, commandOf, storedIn, madeBeside, made}
-use Rattle.commands.specs.Reading.{readPlain, keptAck, readFamily, readCommand}
+use Rattle.commands.specs.Command.{WithStored, withStored, commandOf, storedIn, madeBeside, made}
+use Rattle.commands.specs.Reading.{readPlain, ackWithStored, readFamily, readCommand}
 use Rattle.commands.specs.Writing.{bodyOf, stopBody, payloadOf, roomOf, stopWriting}
-use Rattle.commands.specs.Writing.Text.{stop-is}
+use Rattle.commands.specs.Writing.Equation.{stop-is}
 use Rattle.commands.specs.declared.DirectCommands.{DirectCommands}
 use Rattle.commands.proofs.Written.{body-fits}
 use Rattle.commands.proofs.Laid.{read-payload}
@@ -78,7 +78,7 @@ abbrev Beside : ℕ → List ℕ → Type 0
 Beside n b = (length (take n b) ≡ n) × (b ≡ padded 55 (take n b))
 
 abbrev Reads : CommandPayload → ℕ → List ℕ → Type 0
-Reads p n b = (readFamily (familyId p) (bodyOf p (take n b)) ≡ got (kept p (take n b))) × Beside n b
+Reads p n b = (readFamily (familyId p) (bodyOf p (take n b)) ≡ got (withStored p (take n b))) × Beside n b
 
 none : (t : List ℕ) → length t ≤ 0 → t ≡ []
 none [] h = refl
@@ -87,7 +87,7 @@ none (b ∷ t) h = absurd (omega arith)
 -- ---- a body of a sheet
 plain-back : (rows : List Row) (payload : Said → CommandPayload) (b : Said) (p : CommandPayload) (n : ℕ) (s : List ℕ)
     → readBody rows (writeBody rows b ++ []) ≡ got b → payload b ≡ p → madeBytes 0 n s ≡ true → length s ≡ 55
-    → (readPlain rows payload (writeBody rows b) ≡ got (kept p (take n s))) × Beside n s
+    → (readPlain rows payload (writeBody rows b) ≡ got (withStored p (take n s))) × Beside n s
 plain-back rows payload b p n s e f m l =
     let d = made-stands 0 55 n s m l (omega arith) in
     let z : take n s ≡ [] = none (take n s) (rw (d .1 .1 .0) (d .0)) in
@@ -97,16 +97,10 @@ plain-back rows payload b p n s e f m l =
 -- ---- 0x22 Screen
 popup-by : (f : ScreenPopupFields) (q : ScreenPopup) → construct f ≡ got q
     → (readScreen (0x01 ∷ writePopup (popupSays f)) ≡ got (started (popupSays f))) × (q ≡ popupOf (writePopup (popupSays f)))
-popup-by f q h = by (madeTexts f) (stopPopup (popupSays f)) refl h
-  where
-    by : (m : Bool) (n : ℕ) → stopPopup (popupSays f) ≡ n → pick m (unless n (popupSays f)) (refused 5 0) ≡ got q
-        → (readScreen (0x01 ∷ writePopup (popupSays f)) ≡ got (started (popupSays f))) × (q ≡ popupOf (writePopup (popupSays f)))
-    by false n e g = let z : _≡_ {A = ℕ} 0 1 = cc in absurd (omega arith)
-    by true (suc n) e g = let z : _≡_ {A = ℕ} 0 1 = cc in absurd (omega arith)
-    by true zero e g =
-        let r = says-fit f e in
-        let i : q ≡ popupOf (writePopup (popupSays f)) = sym (cc) in
-        (start-back (f .«additional_data») (f .«has_possible_values») (headSays f ++ (moreSays (f .«additional_data») f ++ valuesSays (f .«has_possible_values») f)) (r .0) (r .1), i)
+popup-by f q h =
+    let g = constructed f q h in
+    let vs = headSays f ++ (moreSays (f .«additional_data») f ++ valuesSays (f .«has_possible_values») f) in
+    (start-back (f .«additional_data») (f .«has_possible_values») vs (g .0) (g .1 .0), g .1 .1)
 
 started-beside : (n : ℕ) (b w : List ℕ) (q : Popup) → n ≡ length w → b ≡ padded 55 w → writePopup q ≡ w → readScreen (0x01 ∷ w) ≡ got (started q)
     → Reads (Screen PopupMessageStart) n b
@@ -147,7 +141,7 @@ body-back (Ack a) n b room x y l m h =
     let d = made-stands 52 55 n b m l (omega arith) in
     let t = take n b in
     let g = subst (λ (w : List ℕ). readAck w ≡ got (ackSays a t)) (append-nil (writeItems ackItems (ackSays a t))) (ack-back room a t [] h (d .1 .0) (rw (d .1 .1 .0) (d .0)) (x .0) (x .1)) in
-    (ap (λ (x : Answer (List (List ℕ))). andThen x (λ vs. got (keptAck vs))) g, (d .1 .1 .0, d .1 .1 .1))
+    (ap (λ (x : Answer (List (List ℕ))). andThen x (λ vs. got (ackWithStored vs))) g, (d .1 .1 .0, d .1 .1 .1))
 
 -- ---- what lets a command through
 room-small : (n : ℕ) → roomOf n ≤ 56
@@ -166,9 +160,9 @@ let-through c n h = by (made c) (ltb n 4) refl (sym (stop-is c n) ∙ h)
     by true true e g = absurd (omega arith)
     by true false e g = (refl, (ltb-false n 4 e, g))
 
-kept-whole : (c : DirectCommands) (n : ℕ) (b : List ℕ) → n ≡ c .len → b ≡ c .bytes
+command-whole : (c : DirectCommands) (n : ℕ) (b : List ℕ) → n ≡ c .len → b ≡ c .bytes
     → record { «dst_addr» = c .«dst_addr»; «src_addr» = c .«src_addr»; payload = c .payload; len = n; bytes = b } ≡ c
-kept-whole c n b e f = rw (e, f)
+command-whole c n b e f = rw (e, f)
 
 -- THE LAW
 pub written-back : (c : DirectCommands) (n : ℕ) → Typed c → stopWriting c n ≡ 0 → readCommand (payloadOf c) ≡ got c
@@ -178,5 +172,5 @@ written-back c n x h =
     let f = body-fits (c .payload) (storedIn c) (roomOf n) (t .1 .1) in
     let s = room-small n in
     read-payload c (omega arith)
-    ∙ (ap (λ (a : Answer Kept). andThen a (λ k. got (commandOf (c .«dst_addr») (c .«src_addr») k))) (w .0)
-    ∙ ap (λ (d : DirectCommands). got d) (kept-whole c (length (storedIn c)) (padded 55 (storedIn c)) (w .1 .0) (sym (w .1 .1))))
+    ∙ (ap (λ (a : Answer WithStored). andThen a (λ k. got (commandOf (c .«dst_addr») (c .«src_addr») k))) (w .0)
+    ∙ ap (λ (d : DirectCommands). got d) (command-whole c (length (storedIn c)) (padded 55 (storedIn c)) (w .1 .0) (sym (w .1 .1))))

@@ -9,7 +9,7 @@ use lib.Seq.{sets, sets-eq, length-take-le, take-append-seam, take-append-add}
 use Rattle.crc.specs.Check.{commandPolynomial, checkOf, allButLast, payloadCheck}
 use Rattle.codec.proofs.Loops.{sets-front, sets-append}
 use Rattle.codec.proofs.Patch.{sets-right, sets-left}
-use Rattle.commands.specs.Closing.{opened, closed}
+use Rattle.commands.specs.Closing.{fronted, closed}
 
 -- bytes put into a part are put at its place
 pieces : (a m p w : List ℕ) → length w ≤ length m → sets (a ++ (m ++ p)) (length a) w ≡ a ++ (sets m 0 w ++ p)
@@ -30,8 +30,8 @@ part-put s w at n h l =
     sym (rw (a, e) at f)
 
 -- addresses and id before a body that is there
-pub opened-is : (s w : List ℕ) (dst src id : ℕ) → opened dst src id (sets s 3 w) ≡ sets s 0 (dst ∷ src ∷ id ∷ w)
-opened-is s w dst src id =
+pub fronted-is : (s w : List ℕ) (dst src id : ℕ) → fronted dst src id (sets s 3 w) ≡ sets s 0 (dst ∷ src ∷ id ∷ w)
+fronted-is s w dst src id =
     ap (λ (r : List ℕ). set (set r 1 src) 2 id) (sets-front w s 0 3 dst (omega arith))
     ∙ ap (λ (r : List ℕ). set r 2 id) (sets-front w (set s 0 dst) 1 3 src (omega arith))
     ∙ sets-front w (set (set s 0 dst) 1 src) 2 3 id (omega arith)
@@ -64,7 +64,7 @@ closed-is s w dst src id n e h =
     let k = checkOf commandPolynomial (0x32 ∷ p) in
     let l : n + 4 ≡ length p + 1 = omega arith in
     let c : payloadCheck (take (n + 4) (sets s 0 p)) ≡ k = rw l (check-behind s p (omega arith)) in
-    ap (λ (r : List ℕ). set r (n + 3) (payloadCheck (take (n + 4) r))) (opened-is s w dst src id)
+    ap (λ (r : List ℕ). set r (n + 3) (payloadCheck (take (n + 4) r))) (fronted-is s w dst src id)
     ∙ ap (λ (x : ℕ). set (sets s 0 p) (n + 3) x) c
     ∙ ap (λ (i : ℕ). set (sets s 0 p) i k) (omega arith)
     ∙ sym (sets-append p (k ∷ []) s 0)

@@ -1,5 +1,5 @@
 -- Document 01, "Examples marked for proof", of the definitions: one table in 01's order, one statement over it. M4 and what M2 and
--- M3 say of edits come with the edits. Checks that 01 doesn't give were worked out apart from the definitions. Assumes nothing.
+-- M3 say of edits stand in edits/proofs/Examples.antt. Checks that 01 doesn't give were worked out apart from the definitions. Assumes nothing.
 use Prim.Native.Nat.{ℕ}
 use mathlib.Core.Bool.{true, false}
 use mathlib.Core.List.{List, [], _∷_, _++_, map}
@@ -23,11 +23,11 @@ use Rattle.families.specs.declared.screen.ScreenAdditionalData.{ScreenAdditiona
 use Rattle.families.specs.declared.screen.ScreenAdditionalData.the-variants.{Absent, Empty}
 use Rattle.families.specs.declared.payload.CommandPayload.{CommandPayload}
 use Rattle.families.specs.declared.payload.CommandPayload.the-variants.{Fc, Vtx, Led}
-use Rattle.commands.specs.Command.{kept, commandOf}
+use Rattle.commands.specs.Command.{withStored, commandOf}
 use Rattle.commands.specs.Reading.{readingOrder, readCommand}
-use Rattle.commands.specs.Reading.Text.{read-is}
+use Rattle.commands.specs.Reading.Equation.{read-is}
 use Rattle.commands.specs.Writing.{layoutOf, writingOrder, payloadOf, stopWriting}
-use Rattle.commands.specs.Writing.Text.{payload-is, stop-is}
+use Rattle.commands.specs.Writing.Equation.{payload-is, stop-is}
 use Rattle.commands.specs.declared.DirectCommands.{DirectCommands}
 
 -- a row of the table: what is given, and last the answer
@@ -63,7 +63,7 @@ worked (popups f a) = popups f (construct f)
 
 -- a command that stores no bytes, from EA to C8
 abbrev pub command : CommandPayload → DirectCommands
-command p = commandOf 0xC8 0xEA (kept p [])
+command p = commandOf 0xC8 0xEA (withStored p [])
 
 abbrev pub disarm : DirectCommands
 disarm = command (Fc ForceDisarm)

@@ -22,7 +22,7 @@ use Rattle.codec.proofs.Writes.{refusal-some, writtenTold, written-told, free}
 use Rattle.families.specs.Payload.{familyId}
 use Rattle.commands.specs.Reading.{readCommand, CommandIs}
 use Rattle.commands.specs.Writing.{layoutOf, writingOrder, payloadOf, stopWriting}
-use Rattle.commands.specs.Writing.Text.{payload-is, stop-is}
+use Rattle.commands.specs.Writing.Equation.{payload-is, stop-is}
 use Rattle.commands.specs.declared.DirectCommands.{DirectCommands}
 use Rattle.commands.specs.declared.CommandAnswer.{CommandAnswer}
 use Rattle.commands.proofs.Examples.{disarm, frequency, m1, m3, m1-read, m3-read}

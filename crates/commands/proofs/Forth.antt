@@ -6,12 +6,12 @@ use mathlib.Core.Path.{_≡_, refl, ap, sym, subst, _∙_}
 use native.Mathlib.Omega.{arith}
 use lib.ListN.{length, drop, getD, length-drop}
 use lib.Seq.{length-take-le}
-use lib.Dec.{ltb, leb, eqb}
-use borrow.Author.Tests.{ltb-false, eqb-true, le-ltb}
-use Rattle.crc.specs.Check.{Bytes, payloadCheck}
+use lib.Dec.{leb, eqb}
+use borrow.Author.Tests.{eqb-true, le-ltb}
+use Rattle.crc.specs.Check.{Bytes}
 use Rattle.codec.specs.Pick.{pick}
 use Rattle.codec.specs.Sheet.{Answer, got, refused, andThen, Row, Said, said, byte, first}
-use Rattle.codec.specs.Reading.{readItem, readItems, readRow, readBody}
+use Rattle.codec.specs.Reading.{readRow, readBody}
 use Rattle.codec.specs.Writing.{okItems, itemsOf, writeItems, writeBody, stopInOrder, stopValuesFirst}
 use Rattle.codec.specs.Sound.{hasRow}
 use Rattle.crc.proofs.Laws.{bytes-take}
@@ -28,7 +28,7 @@ use Rattle.families.specs.Crossfire.{crossfireOf}
 use Rattle.families.specs.FlowControl.{flowOf}
 use Rattle.families.specs.Text.{padded}
 use Rattle.families.specs.Ack.{ackLoose, actionOk, readAck}
-use Rattle.families.specs.Popup.{Popup, popup, readPopup, fitted}
+use Rattle.families.specs.Popup.{Popup, popup}
 use Rattle.families.specs.Screen.{ScreenSaid, started, returned, readScreen, returnOf}
 use Rattle.families.specs.Payload.{familyId}
 use Rattle.families.specs.declared.screen.ScreenCommand.{ScreenCommand}
@@ -36,26 +36,26 @@ use Rattle.families.specs.declared.payload.CommandPayload.{CommandPayload}
 use Rattle.families.specs.declared.payload.CommandPayload.the-variants.{Fc, Osd, Vtx, Led, General, Crossfire, FlowControl, Screen}
 use Rattle.families.proofs.Said.{fc-said, osd-said, vtx-said, led-said, general-said, crossfire-said, flow-said, return-said}
 use Rattle.families.proofs.Answered.{ack-fixed, unpadded}
-use Rattle.families.proofs.Acks.{read-made}
+use Rattle.families.proofs.Acks.{read-made, ack-read}
 use Rattle.families.proofs.PopupLaws.{popup-forth}
-use Rattle.families.proofs.ScreenBack.{started-is, read-made as popup-made}
-use Rattle.commands.specs.Command.{Kept, kept, commandOf, storedIn, madeBeside, made}
-use Rattle.commands.specs.Reading.{bodyIn, checkIn, readPlain, keptScreen, keptAck, readFamily, readAs, readCommand}
-use Rattle.commands.specs.Reading.Text.{read-is}
+use Rattle.families.proofs.ScreenBack.{started-is, read-made as popup-made, screen-way}
+use Rattle.commands.specs.Command.{WithStored, withStored, commandOf, storedIn, madeBeside, made}
+use Rattle.commands.specs.Reading.{bodyIn, readPlain, screenWithStored, ackWithStored, readFamily, readCommand}
 use Rattle.commands.specs.Writing.{bodyOf, stopBody, payloadOf, roomOf, stopWriting}
-use Rattle.commands.specs.Writing.Text.{stop-is}
+use Rattle.commands.specs.Writing.Equation.{stop-is}
 use Rattle.commands.specs.declared.DirectCommands.{DirectCommands}
+use Rattle.commands.proofs.Known.{read-parts}
 use Rattle.commands.proofs.Laid.{payload-length}
 
--- what is kept of a body s of this id: made, not longer than s, and stopped by nothing where it has room
-abbrev pub Writable : List ℕ → ℕ → Kept → Type 0
-Writable s id (kept p t) =
+-- what a body s of this id gives: made, not longer than s, and stopped by nothing where it has room
+abbrev pub Writable : List ℕ → ℕ → WithStored → Type 0
+Writable s id (withStored p t) =
     (familyId p ≡ id)
     × ((madeBeside p (length t) (padded 55 t) ≡ true)
     × ((length (bodyOf p t) ≤ length s) × ((room : ℕ) → length (bodyOf p t) ≤ room → stopBody p t room ≡ 0)))
 
-kept-is : (a b : Kept) → got a ≡ got b → a ≡ b
-kept-is a b h = cc
+with-stored-is : (a b : WithStored) → got a ≡ got b → a ≡ b
+with-stored-is a b h = cc
 
 -- ---- a body of a sheet
 abbrev Says : List Row → (List Row → ℕ → Said → ℕ) → ℕ → CommandPayload → Said → Type 0
@@ -66,18 +66,18 @@ Free rows stop = (room sub : ℕ) (vs : List (List ℕ)) → okItems (itemsOf ro
 
 plain-forth : (rows : List Row) (stop : List Row → ℕ → Said → ℕ) (id : ℕ) (payload : Said → CommandPayload) → Free rows stop
     → ((sub : ℕ) (vs : List (List ℕ)) → hasRow rows sub ≡ true → okItems (itemsOf rows sub) vs ≡ true → Says rows stop id (payload (said sub vs)) (said sub vs))
-    → (s : List ℕ) (k : Kept) → readPlain rows payload s ≡ got k → Writable s id k
+    → (s : List ℕ) (k : WithStored) → readPlain rows payload s ≡ got k → Writable s id k
 plain-forth rows stop id payload free says s k h =
-    let p = and-got (readBody rows s) (λ b. got (kept (payload b) [])) k h in
+    let p = and-got (readBody rows s) (λ b. got (withStored (payload b) [])) k h in
     let g = body-there rows s (p .0) (p .1 .0) in
     let sub = g .0 in
     let vs = g .1 .0 in
     let y = says sub vs (g .1 .1 .1 .0) (g .1 .1 .1 .1 .0) in
-    let e : k ≡ kept (payload (said sub vs)) [] = sym (kept-is (kept (payload (p .0)) []) k (p .1 .1)) ∙ ap (λ (b : Said). kept (payload b) []) (g .1 .1 .0) in
+    let e : k ≡ withStored (payload (said sub vs)) [] = sym (with-stored-is (withStored (payload (p .0)) []) k (p .1 .1)) ∙ ap (λ (b : Said). withStored (payload b) []) (g .1 .1 .0) in
     rw e (y .0, (y .1 .1 .1, (rw (y .1 .0) (g .1 .1 .1 .1 .1), λ room l. y .1 .1 .0 room ∙ free room sub vs (g .1 .1 .1 .1 .0) (rw (y .1 .0) at l))))
 
 -- ---- 0x22 Screen
-returned-by : (s : List ℕ) (sub : ℕ) (b : Said) → 1 ≤ length s → readRow screenRows s sub ≡ got b → Writable s 0x22 (keptScreen (returned b))
+returned-by : (s : List ℕ) (sub : ℕ) (b : Said) → 1 ≤ length s → readRow screenRows s sub ≡ got b → Writable s 0x22 (screenWithStored (returned b))
 returned-by s sub b l h =
     let r = row-there screenRows s sub b h in
     let g = items-there (itemsOf screenRows sub) s 1 (r .1 .0) l (r .1 .1 .1) in
@@ -85,89 +85,52 @@ returned-by s sub b l h =
     let n : length (writeBody screenRows (said sub (r .1 .0))) ≤ length s = omega (arith, g .1) in
     let m = subst (λ (d : Said). length (writeBody screenRows d) ≤ length s) (y .1 .1 .1) n in
     let e = ap (λ (d : Said). returnOf d) (r .1 .1 .0) ∙ y .1 .1 .0 in
-    subst (λ (x : ScreenCommand). Writable s 0x22 (kept (Screen x) [])) (sym e) (refl, (refl, (m, λ room k. room-there room 3 k)))
+    subst (λ (x : ScreenCommand). Writable s 0x22 (withStored (Screen x) [])) (sym e) (refl, (refl, (m, λ room k. room-there room 3 k)))
 
-screen-forth : (s : List ℕ) (k : Kept) → Bytes s → andThen (readScreen s) (λ q. got (keptScreen q)) ≡ got k → Writable s 0x22 k
+screen-forth : (s : List ℕ) (k : WithStored) → Bytes s → andThen (readScreen s) (λ q. got (screenWithStored q)) ≡ got k → Writable s 0x22 k
 screen-forth s k y h =
-    let p = and-got (readScreen s) (λ q. got (keptScreen q)) k h in
-    rw (sym (kept-is (keptScreen (p .0)) k (p .1 .1))) (by (p .0) (p .1 .0))
+    let p = and-got (readScreen s) (λ q. got (screenWithStored q)) k h in
+    rw (sym (with-stored-is (screenWithStored (p .0)) k (p .1 .1))) (by (p .0) (p .1 .0))
   where
-    popup-by : (q : Popup) → readScreen s ≡ got (started q) → Writable s 0x22 (keptScreen (started q))
+    popup-by : (q : Popup) → readScreen s ≡ got (started q) → Writable s 0x22 (screenWithStored (started q))
     popup-by (popup c v vs) e =
         let x = started-is s (popup c v vs) e in
         let f = popup-forth s 1 (popup c v vs) y (x .0) (x .1 .0) in
         (refl, (popup-made s c v vs y e, (omega (arith, f .1 .0), λ room l. room-there room _ l)))
 
-    row-of : (b : Said) → readScreen s ≡ got (returned b) → (sub : ℕ) × (readRow screenRows s sub ≡ got b)
-    row-of b e =
-        let x = and-got (readItem byte (drop 0 s)) (λ v.
-        pick (eqb (first v) 0x01)
-        (andThen (readPopup s 1) (λ r. andThen (fitted r) (λ p. got (started p))))
-        (andThen (readRow screenRows s (first v)) (λ d. got (returned d)))) (returned b) e in
-        (first (x .0), picked (eqb (first (x .0)) 0x01) (readPopup s 1) (readRow screenRows s (first (x .0))) (x .1 .1))
-      where
-        not-fitted : (a : Answer Popup) → andThen a (λ p. got (started p)) ≡ got (returned b) → ⊥
-        not-fitted (got q) g = let z : _≡_ {A = ℕ} 0 1 = cc in omega arith
-        not-fitted (refused n m) g = let z : _≡_ {A = ℕ} 0 1 = cc in omega arith
-
-        not-popup : (a : Answer Popup) → andThen a (λ r. andThen (fitted r) (λ p. got (started p))) ≡ got (returned b) → ⊥
-        not-popup (got q) g = not-fitted (fitted q) g
-        not-popup (refused n m) g = let z : _≡_ {A = ℕ} 0 1 = cc in omega arith
-
-        same : (a : Answer Said) → andThen a (λ d. got (returned d)) ≡ got (returned b) → a ≡ got b
-        same (got d) g = cc
-        same (refused n m) g = let z : _≡_ {A = ℕ} 0 1 = cc in absurd (omega arith)
-
-        picked : (t : Bool) (a : Answer Popup) (c : Answer Said)
-            → pick t (andThen a (λ r. andThen (fitted r) (λ p. got (started p)))) (andThen c (λ d. got (returned d))) ≡ got (returned b) → c ≡ got b
-        picked true a c g = absurd (not-popup a g)
-        picked false a c g = same c g
-
-    there : (q : ScreenSaid) → readScreen s ≡ got q → 1 ≤ length s
-    there q e =
-        let x = and-got (readItem byte (drop 0 s)) (λ v.
-        pick (eqb (first v) 0x01)
-        (andThen (readPopup s 1) (λ r. andThen (fitted r) (λ p. got (started p))))
-        (andThen (readRow screenRows s (first v)) (λ d. got (returned d)))) q e in
-        item-there byte (drop 0 s) (x .0) (x .1 .0) .1 .0
-
-    by : (q : ScreenSaid) → readScreen s ≡ got q → Writable s 0x22 (keptScreen q)
+    by : (q : ScreenSaid) → readScreen s ≡ got q → Writable s 0x22 (screenWithStored q)
     by (started q) e = popup-by q e
-    by (returned b) e = let r = row-of b e in returned-by s (r .0) b (there (returned b) e) (r .1)
+    by (returned b) e =
+        let w = screen-way s (returned b) e in
+        returned-by s (first (w .0)) b (item-there byte (drop 0 s) (w .0) (w .1 .0) .1 .0) (w .1 .1)
 
 -- ---- 0xFF ACK
-action-of : (t : Bool) (ws vs : List (List ℕ)) → pick t (got ws) (refused 2 0) ≡ got vs → (t ≡ true) × (ws ≡ vs)
-action-of true ws vs h = (refl, cc)
-action-of false ws vs h = let z : _≡_ {A = ℕ} 0 1 = cc in absurd (omega arith)
-
-ack-by : (s : List ℕ) (vs : List (List ℕ)) → readAck s ≡ got vs → Writable s 0xFF (keptAck vs)
+ack-by : (s : List ℕ) (vs : List (List ℕ)) → readAck s ≡ got vs → Writable s 0xFF (ackWithStored vs)
 ack-by s vs h =
-    let p = and-got (readItems ackLoose s 0) (λ ws. pick (actionOk ws) (got ws) (refused 2 0)) vs h in
-    let a = action-of (actionOk (p .0)) (p .0) vs (p .1 .1) in
-    let o : actionOk vs ≡ true = rw (a .1) at (a .0) in
+    let r = ack-read s vs h in
     let f = ack-fixed s vs h in
-    let g = items-there ackLoose s 0 vs (omega arith) (rw (a .1) at (p .1 .0)) in
+    let g = items-there ackLoose s 0 vs (omega arith) (r .0) in
     let l = subst (λ (ws : List (List ℕ)). length (writeItems ackLoose ws) ≤ length s) (sym f) (omega (arith, g .1)) in
-    let k = subst (λ (ws : List (List ℕ)). actionOk ws ≡ true) (sym f) o in
+    let k = subst (λ (ws : List (List ℕ)). actionOk ws ≡ true) (sym f) (r .1) in
     (refl, (read-made s vs h, (l, λ room m. rw k (room-there room _ m))))
 
-ack-forth : (s : List ℕ) (k : Kept) → andThen (readAck s) (λ vs. got (keptAck vs)) ≡ got k → Writable s 0xFF k
+ack-forth : (s : List ℕ) (k : WithStored) → andThen (readAck s) (λ vs. got (ackWithStored vs)) ≡ got k → Writable s 0xFF k
 ack-forth s k h =
-    let p = and-got (readAck s) (λ vs. got (keptAck vs)) k h in
-    rw (sym (kept-is (keptAck (p .0)) k (p .1 .1))) (ack-by s (p .0) (p .1 .0))
+    let p = and-got (readAck s) (λ vs. got (ackWithStored vs)) k h in
+    rw (sym (with-stored-is (ackWithStored (p .0)) k (p .1 .1))) (ack-by s (p .0) (p .1 .0))
 
 -- ---- of every family
-either : (id x : ℕ) (a b : Answer Kept) (k : Kept) (P : Type 0) → pick (eqb id x) a b ≡ got k → (id ≡ x → a ≡ got k → P) → (b ≡ got k → P) → P
+either : (id x : ℕ) (a b : Answer WithStored) (k : WithStored) (P : Type 0) → pick (eqb id x) a b ≡ got k → (id ≡ x → a ≡ got k → P) → (b ≡ got k → P) → P
 either id x a b k P h f g = by (eqb id x) refl h
   where
     by : (t : Bool) → eqb id x ≡ t → pick t a b ≡ got k → P
     by true e d = f (eqb-true id x e) d
     by false e d = g d
 
-never : (n : ℕ) (k : Kept) → refused n 0 ≡ got k → ⊥
+never : (n : ℕ) (k : WithStored) → refused n 0 ≡ got k → ⊥
 never n k h = let z : _≡_ {A = ℕ} 0 1 = cc in omega arith
 
-pub family-forth : (id : ℕ) (s : List ℕ) (k : Kept) → Bytes s → readFamily id s ≡ got k → Writable s id k
+pub family-forth : (id : ℕ) (s : List ℕ) (k : WithStored) → Bytes s → readFamily id s ≡ got k → Writable s id k
 family-forth id s k y h =
     either id 0x03 _ _ k (Writable s id k) h (λ e d. absurd (never 4 k d)) (λ h.
     either id 0x13 _ _ k (Writable s id k) h (λ e d. absurd (never 4 k d)) (λ h.
@@ -182,10 +145,7 @@ family-forth id s k y h =
     either id 0xFF _ _ k (Writable s id k) h (λ e d. rw e (ack-forth s k d)) (λ h. absurd (never 2 k h))))))))))))
 
 -- ---- of a whole payload
-command-is : (a b : DirectCommands) → got a ≡ got b → a ≡ b
-command-is a b h = cc
-
-room-enough : (k n : ℕ) → k + 4 ≤ n → k ≤ 56 → k ≤ roomOf n
+pub room-enough : (k n : ℕ) → k + 4 ≤ n → k ≤ 56 → k ≤ roomOf n
 room-enough k n h l = by (leb n 60) refl
   where
     by : (t : Bool) → leb n 60 ≡ t → k ≤ pick t n 60 - 4
@@ -196,9 +156,9 @@ room-enough k n h l = by (leb n 60) refl
 abbrev pub CanBeWritten : ℕ → DirectCommands → Type 0
 CanBeWritten l c = (made c ≡ true) × ((length (payloadOf c) ≤ l) × ((n : ℕ) → length (payloadOf c) ≤ n → stopWriting c n ≡ 0))
 
-of-kept : (p : List ℕ) (dst src id : ℕ) (k : Kept) → 4 ≤ length p → length p ≤ 60 → Writable (bodyIn p) id k → CanBeWritten (length p) (commandOf dst src k)
-of-kept p dst src id (kept q t) g l w =
-    let c : DirectCommands = commandOf dst src (kept q t) in
+of-stored : (p : List ℕ) (dst src id : ℕ) (k : WithStored) → 4 ≤ length p → length p ≤ 60 → Writable (bodyIn p) id k → CanBeWritten (length p) (commandOf dst src k)
+of-stored p dst src id (withStored q t) g l w =
+    let c : DirectCommands = commandOf dst src (withStored q t) in
     let s : length (bodyIn p) ≡ length p - 4 = length-take-le (length p - 4) (drop 3 p) (rw (length-drop 3 p) (omega arith)) in
     let e : storedIn c ≡ t = unpadded t in
     let n : length (payloadOf c) ≡ length (bodyOf q t) + 4 = payload-length c ∙ ap (λ (x : List ℕ). length (bodyOf q x) + 4) e in (
@@ -212,23 +172,11 @@ of-kept p dst src id (kept q t) g l w =
     )
 
 there : (p : List ℕ) (c : DirectCommands) → Bytes p → readCommand p ≡ got c → (length p ≤ 60) × CanBeWritten (length p) c
-there p c y h = by (ltb (length p) 4) (ltb 60 (length p)) (eqb (checkIn p) (payloadCheck p)) refl refl (sym (read-is p) ∙ h)
-  where
-    as-read : (dst src id : ℕ) → 4 ≤ length p → length p ≤ 60 → readAs dst src id (bodyIn p) ≡ got c → CanBeWritten (length p) c
-    as-read dst src id g l d =
-        let k = and-got (readFamily id (bodyIn p)) (λ x. got (commandOf dst src x)) c d in
-        let w = family-forth id (bodyIn p) (k .0) (bytes-take (length p - 4) (drop 3 p) (bytes-drop 3 p y)) (k .1 .0) in
-        subst (λ (x : DirectCommands). CanBeWritten (length p) x) (command-is (commandOf dst src (k .0)) c (k .1 .1)) (of-kept p dst src id (k .0) g l w)
-
-    by : (a b e : Bool) → ltb (length p) 4 ≡ a → ltb 60 (length p) ≡ b
-        → pick a (refused 1 0) (pick b (refused 1 0) (pick e (readAs (getD p 0 0) (getD p 1 0) (getD p 2 0) (bodyIn p)) (refused 2 0))) ≡ got c
-        → (length p ≤ 60) × CanBeWritten (length p) c
-    by true b e i j d = let z : _≡_ {A = ℕ} 0 1 = cc in absurd (omega arith)
-    by false true e i j d = let z : _≡_ {A = ℕ} 0 1 = cc in absurd (omega arith)
-    by false false false i j d = let z : _≡_ {A = ℕ} 0 1 = cc in absurd (omega arith)
-    by false false true i j d =
-        let l : length p ≤ 60 = ltb-false 60 (length p) j in
-        (l, as-read (getD p 0 0) (getD p 1 0) (getD p 2 0) (ltb-false (length p) 4 i) l d)
+there p c y h =
+    let r = read-parts p c h in
+    let k = r .body in
+    let w = family-forth (getD p 2 0) (bodyIn p) (k .0) (bytes-take (length p - 4) (drop 3 p) (bytes-drop 3 p y)) (k .1 .0) in
+    (r .most, subst (λ (x : DirectCommands). CanBeWritten (length p) x) (k .1 .1) (of-stored p (getD p 0 0) (getD p 1 0) (getD p 2 0) (k .0) (r .least) (r .most) w))
 
 -- THE LAW
 pub read-writable : (p : List ℕ) (c : DirectCommands) → Bytes p → readCommand p ≡ got c → CanBeWritten (length p) c

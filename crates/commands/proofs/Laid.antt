@@ -11,9 +11,9 @@ use Rattle.families.specs.Payload.{familyId}
 use Rattle.families.specs.declared.payload.CommandPayload.{CommandPayload}
 use Rattle.commands.specs.Command.{storedIn}
 use Rattle.commands.specs.Reading.{bodyIn, checkIn, readAs, readCommand}
-use Rattle.commands.specs.Reading.Text.{read-is}
+use Rattle.commands.specs.Reading.Equation.{read-is}
 use Rattle.commands.specs.Writing.{bodyOf, opening, checked, payloadOf}
-use Rattle.commands.specs.Writing.Text.{payload-is}
+use Rattle.commands.specs.Writing.Equation.{payload-is}
 use Rattle.commands.specs.declared.DirectCommands.{DirectCommands}
 use Rattle.commands.proofs.Closed.{but-last}
 use Rattle.commands.proofs.Written.{checked-length}

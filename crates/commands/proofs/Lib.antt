@@ -10,3 +10,4 @@ pub mod Examples
 pub mod Excluded
 pub mod OneAnswer
 pub mod Promised
+pub mod RuledOut

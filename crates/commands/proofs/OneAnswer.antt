@@ -29,7 +29,7 @@ pub blank-one : (κs : Lfts 0) (a : Dens κs blank-kinds.ps) (x y : resT blank-k
     → blank.Post κs a x s → blank.Post κs a y t → x ≡ y
 blank-one κs a x y s t p q = p ∙ sym q
 
-answer-one : (a : Answer DirectCommands) (x y : CommandAnswer) → CommandIs a x → CommandIs a y → x ≡ y
+pub answer-one : (a : Answer DirectCommands) (x y : CommandAnswer) → CommandIs a x → CommandIs a y → x ≡ y
 answer-one a x y p q = rw (outcome-one (x .outcome) (y .outcome) (p .0 ∙ sym (q .0)), p .1 ∙ sym (q .1))
 
 pub from-bytes-one : (κs : Lfts 1) (a : Dens κs read-kinds.ps) (x y : resT read-kinds.r κs .Denot) (s t : AtExit (endedOf 1 read-kinds.ps read-kinds.r) κs)

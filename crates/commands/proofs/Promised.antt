@@ -7,10 +7,11 @@ use native.Mathlib.Omega.{arith}
 use native.Mathlib.Nat.{mod-eq-of-lt}
 use lib.ListN.{length, take, drop, replicate, getD, length-append, length-replicate}
 use lib.Seq.{take-all, take-suc, take-add, getD-drop, length-take-le}
-use lib.Dec.{ltb, leb, eqb}
-use borrow.Author.Tests.{ltb-true, ltb-false, eqb-true}
+use lib.Dec.{ltb, eqb}
+use borrow.Author.Tests.{ltb-true, ltb-false}
 use Rattle.crc.specs.Check.{commandPolynomial, checkOf, payloadCheck, Bytes}
 use Rattle.crc.proofs.Laws.{command, check-is-remainder, bytes-take, bytes-append}
+use Rattle.crc.proofs.Zeros.{bytes-zeros}
 use Rattle.codec.specs.Pick.{pick}
 use Rattle.codec.specs.Digits.{sum, join, numberOf, bytesOf}
 use Rattle.codec.specs.Sheet.{Answer, got, refused, andThen, Field, field, Item, packed, text, Row, row, widths, Said, said, byte, flag, first}
@@ -36,8 +37,8 @@ use Rattle.families.specs.Crossfire.{crossfireSays, crossfireOf}
 use Rattle.families.specs.FlowControl.{flowSays, flowOf}
 use Rattle.families.specs.Text.{padded}
 use Rattle.families.specs.Ack.{ackItems, ackLoose, ackSays, ackOf, actionOk, readAck}
-use Rattle.families.specs.Popup.{Popup, popup, popupItems, alone, readPopup, okPopup, writePopup, fitted}
-use Rattle.families.specs.Fields.{construct, unless, stopPopup, popupSays, popupOf, madeTexts, madePopup, blankFields}
+use Rattle.families.specs.Popup.{Popup, popup, popupItems, alone, okPopup, writePopup}
+use Rattle.families.specs.Fields.{popupSays, popupOf, madePopup, blankFields}
 use Rattle.families.specs.Body.{saidItems, saidValues, popupIn, startItems, startValues, returnSays, bodyItems, bodyValues}
 use Rattle.families.specs.Screen.{ScreenSaid, started, returned, readScreen, returnOf, screenBody}
 use Rattle.families.specs.Payload.{familyId}
@@ -51,20 +52,20 @@ use Rattle.families.specs.declared.screen.ScreenPopupFields.{ScreenPopupFields}
 use Rattle.families.specs.declared.payload.CommandPayload.{CommandPayload}
 use Rattle.families.specs.declared.payload.CommandPayload.the-variants.{Fc, Osd, Vtx, Led, General, Crossfire, FlowControl, Screen, Ack}
 use Rattle.families.proofs.RoundTrip.{fc-known, osd-known, vtx-known, led-known, general-known, crossfire-known, flow-known}
-use Rattle.families.proofs.Made.{inspect-of, says-fields, says-fit, made-decided}
+use Rattle.families.proofs.Made.{inspect-of, says-fields, made-decided, constructed}
 use Rattle.families.proofs.Answered.{ack-fixed, unpadded}
 use Rattle.families.proofs.Said.{fc-said, osd-said, vtx-said, led-said, general-said, crossfire-said, flow-said, return-said}
-use Rattle.families.proofs.Acks.{loose-range}
+use Rattle.families.proofs.Acks.{loose-range, ack-read}
 use Rattle.families.proofs.PopupLaws.{popup-forth}
-use Rattle.families.proofs.ScreenBack.{started-is}
-use Rattle.commands.specs.Command.{Kept, kept, commandOf, storedIn, madeBeside, made}
-use Rattle.commands.specs.Reading.{bodyIn, checkIn, keptScreen, keptAck, readFamily, readAs, readCommand}
+use Rattle.families.proofs.ScreenBack.{started-is, screen-way}
+use Rattle.commands.specs.Command.{WithStored, withStored, commandOf, storedIn, madeBeside, made}
+use Rattle.commands.specs.Reading.{bodyIn, checkIn, screenWithStored, ackWithStored, readFamily, readCommand}
 use Rattle.commands.specs.Writing.{bodyOf, stopBody, opening, checked, payloadOf, roomOf, stopWriting}
-use Rattle.commands.specs.Reading.Text.{read-is}
-use Rattle.commands.specs.Writing.Text.{payload-is}
+use Rattle.commands.specs.Writing.Equation.{payload-is}
 use Rattle.commands.specs.declared.DirectCommands.{DirectCommands}
 use Rattle.commands.proofs.Written.{stop-body}
-use Rattle.commands.proofs.Forth.{family-forth, read-writable, read-fits}
+use Rattle.commands.proofs.Known.{read-parts}
+use Rattle.commands.proofs.Forth.{family-forth, room-enough, read-writable, read-fits}
 use Rattle.commands.proofs.Laid.{payload-length}
 use Rattle.commands.proofs.Back.{TypedPayload, Typed, written-back}
 
@@ -79,8 +80,8 @@ pub record Sound (c : DirectCommands) : Type 0 where
   pub short : length (payloadOf c) ≤ 60
 
 -- a command's items in the order of 01
-abbrev pub opened : DirectCommands → List ℕ
-opened c = c .«dst_addr» ∷ c .«src_addr» ∷ familyId (c .payload) ∷ writeItems (bodyItems (c .payload) (storedIn c)) (bodyValues (c .payload) (storedIn c))
+abbrev pub itemsLaid : DirectCommands → List ℕ
+itemsLaid c = c .«dst_addr» ∷ c .«src_addr» ∷ familyId (c .payload) ∷ writeItems (bodyItems (c .payload) (storedIn c)) (bodyValues (c .payload) (storedIn c))
 
 -- ---- a body of a sheet
 byte-of : (n : ℕ) → okItem byte (n ∷ []) ≡ true → n < 256
@@ -95,16 +96,6 @@ said-laid rs (said sub vs) h =
     ap (λ (l : List ℕ). l ++ writeItems (itemsOf rs sub) vs) (sym (byte-item sub (byte-of sub (o .0))))
 
 -- ---- a popup's bytes are what it would be written as
-pub constructed : (f : ScreenPopupFields) (q : ScreenPopup) → construct f ≡ got q
-    → (okPopup (popupSays f) ≡ true) × ((length (writePopup (popupSays f)) ≤ 55) × (q ≡ popupOf (writePopup (popupSays f))))
-constructed f q h = by (madeTexts f) (stopPopup (popupSays f)) refl h
-  where
-    by : (m : Bool) (n : ℕ) → stopPopup (popupSays f) ≡ n → pick m (unless n (popupSays f)) (refused 5 0) ≡ got q
-        → (okPopup (popupSays f) ≡ true) × ((length (writePopup (popupSays f)) ≤ 55) × (q ≡ popupOf (writePopup (popupSays f))))
-    by false n e g = let z : _≡_ {A = ℕ} 0 1 = cc in absurd (omega arith)
-    by true (suc n) e g = let z : _≡_ {A = ℕ} 0 1 = cc in absurd (omega arith)
-    by true zero e g = let r = says-fit f e in let i : q ≡ popupOf (writePopup (popupSays f)) = sym (cc) in (r .0, (r .1, i))
-
 pub popup-in : (q : Popup) → okPopup q ≡ true → length (writePopup q) ≤ 55 → popupIn (writePopup q) ≡ q
 popup-in (popup k p vs) o l =
     let t = passed (alone k p) (okItems (popupItems k p) vs) o in
@@ -143,11 +134,11 @@ body-laid (Ack a) n b y l m h = refl
 
 -- THE layout: items in the order of 01, then the check
 pub payload-laid : (c : DirectCommands) → okItems (bodyItems (c .payload) (storedIn c)) (bodyValues (c .payload) (storedIn c)) ≡ true → made c ≡ true → Bytes (c .bytes)
-    → length (c .bytes) ≡ 55 → payloadOf c ≡ opened c ++ checkOf commandPolynomial (0x32 ∷ opened c) ∷ []
+    → length (c .bytes) ≡ 55 → payloadOf c ≡ itemsLaid c ++ checkOf commandPolynomial (0x32 ∷ itemsLaid c) ∷ []
 payload-laid c o m y l =
     payload-is c ∙ ap (λ (w : List ℕ). checked (c .«dst_addr» ∷ c .«src_addr» ∷ familyId (c .payload) ∷ w)) (body-laid (c .payload) (c .len) (c .bytes) y l m o)
 
-pub sound-laid : (c : DirectCommands) → Sound c → payloadOf c ≡ opened c ++ checkOf commandPolynomial (0x32 ∷ opened c) ∷ []
+pub sound-laid : (c : DirectCommands) → Sound c → payloadOf c ≡ itemsLaid c ++ checkOf commandPolynomial (0x32 ∷ itemsLaid c) ∷ []
 sound-laid c z = payload-laid c (z .inRange) (z .isMade) (z .stored) (z .size)
 
 -- ---- all its bytes are bytes
@@ -156,19 +147,20 @@ plainItems [] = true
 plainItems (packed w fs ∷ is) = plainItems is
 plainItems (text least most ∷ is) = false
 
-abbrev plainRows : List Row → Bool
-plainRows [] = true
-plainRows (row k is ∷ rs) = pick (plainItems is) (plainRows rs) false
+-- a test that every row of a sheet passes
+abbrev everyRow : (List Item → Bool) → List Row → Bool
+everyRow test [] = true
+everyRow test (row k is ∷ rs) = pick (test is) (everyRow test rs) false
 
-pick-plain : (t : Bool) (is js : List Item) → plainItems is ≡ true → plainItems js ≡ true → plainItems (pick t is js) ≡ true
-pick-plain true is js p q = p
-pick-plain false is js p q = q
-
-plain-of : (rs : List Row) (sub : ℕ) → plainRows rs ≡ true → plainItems (itemsOf rs sub) ≡ true
-plain-of [] sub h = refl
-plain-of (row k is ∷ rs) sub h =
-    let t = both (plainItems is) (plainRows rs) h in
-    pick-plain (eqb sub k) is (itemsOf rs sub) (t .0) (plain-of rs sub (t .1))
+every-of : (test : List Item → Bool) (rs : List Row) (sub : ℕ) → test [] ≡ true → everyRow test rs ≡ true → test (itemsOf rs sub) ≡ true
+every-of test [] sub e h = e
+every-of test (row k is ∷ rs) sub e h =
+    let t = both (test is) (everyRow test rs) h in
+    by (eqb sub k) (itemsOf rs sub) (t .0) (every-of test rs sub e (t .1))
+  where
+    by : (t : Bool) (js : List Item) → test is ≡ true → test js ≡ true → test (pick t is js) ≡ true
+    by true js p q = p
+    by false js p q = q
 
 plain-bytes : (is : List Item) (vs : List (List ℕ)) → plainItems is ≡ true → Bytes (writeItems is vs)
 plain-bytes [] vs h = tt
@@ -176,11 +168,11 @@ plain-bytes (i ∷ is) [] h = tt
 plain-bytes (packed w fs ∷ is) (v ∷ vs) h = bytes-append (bytesOf w (join (widths fs) v)) (writeItems is vs) (digit-bytes w (join (widths fs) v)) (plain-bytes is vs h)
 plain-bytes (text least most ∷ is) (v ∷ vs) h = let z : _≡_ {A = ℕ} 0 1 = cc in absurd (omega arith)
 
-said-bytes : (rs : List Row) (b : Said) → plainRows rs ≡ true → known rs b ≡ true → Bytes (writeBody rs b)
+said-bytes : (rs : List Row) (b : Said) → everyRow plainItems rs ≡ true → known rs b ≡ true → Bytes (writeBody rs b)
 said-bytes rs (said sub vs) p k =
     let a = both (hasRow rs sub) (pick (ltb sub 256) (eqb (length (itemsOf rs sub)) (length vs)) false) k in
     let b = both (ltb sub 256) (eqb (length (itemsOf rs sub)) (length vs)) (a .1) in
-    (ltb-true sub 256 (b .0), plain-bytes (itemsOf rs sub) vs (plain-of rs sub p))
+    (ltb-true sub 256 (b .0), plain-bytes (itemsOf rs sub) vs (every-of plainItems rs sub refl p))
 
 body-bytes : (p : CommandPayload) (t : List ℕ) → Bytes t → Bytes (bodyOf p t)
 body-bytes (Fc c) t y = said-bytes fcRows (fcSays c) refl (fc-known c)
@@ -244,13 +236,6 @@ body-free (Crossfire c) t room h l = said-free crossfireRows room (crossfireSays
 body-free (FlowControl c) t room h l = said-free flowRows room (flowSays c) h l
 body-free (Screen c) t room h l = room-there room (length (screenBody c t)) l
 body-free (Ack a) t room h l = rw (ack-in a t h .1 .1) (room-there room (length (writeItems ackItems (ackSays a t))) l)
-
-room-enough : (k n : ℕ) → k + 4 ≤ n → k ≤ 56 → k ≤ roomOf n
-room-enough k n h l = by (leb n 60) refl
-  where
-    by : (t : Bool) → leb n 60 ≡ t → k ≤ pick t n 60 - 4
-    by true e = omega arith
-    by false e = omega arith
 
 pub sound-accepted : (c : DirectCommands) → Sound c → (n : ℕ) → length (payloadOf c) ≤ n → stopWriting c n ≡ 0
 sound-accepted c z n h =
@@ -325,23 +310,7 @@ clear-by dst src (Ack a) t h = tt
 pub written-clear : (c : DirectCommands) → Sound c → PitClear (c .payload) (payloadOf c)
 written-clear c z = subst (PitClear (c .payload)) (sym (payload-is c)) (clear-by (c .«dst_addr») (c .«src_addr») (c .payload) (storedIn c) (z .inRange))
 
--- ---- the parts of a payload that was read: the reader's own order, looked into here only
-read-parts : (p : List ℕ) (c : DirectCommands) → readCommand p ≡ got c
-    → (4 ≤ length p) × ((checkIn p ≡ payloadCheck p) × ((k : Kept) × ((readFamily (getD p 2 0) (bodyIn p) ≡ got k) × (commandOf (getD p 0 0) (getD p 1 0) k ≡ c))))
-read-parts p c h = by (ltb (length p) 4) (ltb 60 (length p)) (eqb (checkIn p) (payloadCheck p)) refl refl (sym (read-is p) ∙ h)
-  where
-    by : (a b e : Bool) → ltb (length p) 4 ≡ a → eqb (checkIn p) (payloadCheck p) ≡ e
-        → pick a (refused 1 0) (pick b (refused 1 0) (pick e (readAs (getD p 0 0) (getD p 1 0) (getD p 2 0) (bodyIn p)) (refused 2 0))) ≡ got c
-        → (4 ≤ length p) × ((checkIn p ≡ payloadCheck p) × ((k : Kept) × ((readFamily (getD p 2 0) (bodyIn p) ≡ got k) × (commandOf (getD p 0 0) (getD p 1 0) k ≡ c))))
-    by true b e i j d = let z : _≡_ {A = ℕ} 0 1 = cc in absurd (omega arith)
-    by false true e i j d = let z : _≡_ {A = ℕ} 0 1 = cc in absurd (omega arith)
-    by false false false i j d = let z : _≡_ {A = ℕ} 0 1 = cc in absurd (omega arith)
-    by false false true i j d =
-        let k = and-got (readFamily (getD p 2 0) (bodyIn p)) (λ x. got (commandOf (getD p 0 0) (getD p 1 0) x)) c d in
-        let e : commandOf (getD p 0 0) (getD p 1 0) (k .0) ≡ c = cc in
-        (ltb-false (length p) 4 i, (eqb-true (checkIn p) (payloadCheck p) j, (k .0, (k .1 .0, e))))
-
--- a payload is its first three bytes, its body, and its check
+-- ---- a payload is its first three bytes, its body, and its check
 front-three : (p : List ℕ) (m : ℕ) → 3 ≤ length p → take (suc (suc (suc m))) p ≡ getD p 0 0 ∷ getD p 1 0 ∷ getD p 2 0 ∷ take m (drop 3 p)
 front-three [] m h = absurd (omega arith)
 front-three (a ∷ []) m h = absurd (omega arith)
@@ -400,26 +369,12 @@ sheet-read rs says of c s b law h e =
 read-ok : (is : List Item) (vs : List (List ℕ)) (s : List ℕ) → readItems is s 0 ≡ got vs → okItems is vs ≡ true
 read-ok is vs s h = items-there is s 0 vs (omega arith) h .0
 
-abbrev exactRows : List Row → Bool
-exactRows [] = true
-exactRows (row k is ∷ rs) = pick (exactItems is) (exactRows rs) false
-
-pick-exact : (t : Bool) (is js : List Item) → exactItems is ≡ true → exactItems js ≡ true → exactItems (pick t is js) ≡ true
-pick-exact true is js p q = p
-pick-exact false is js p q = q
-
-exact-of : (rs : List Row) (sub : ℕ) → exactRows rs ≡ true → exactItems (itemsOf rs sub) ≡ true
-exact-of [] sub h = refl
-exact-of (row k is ∷ rs) sub h =
-    let t = both (exactItems is) (exactRows rs) h in
-    pick-exact (eqb sub k) is (itemsOf rs sub) (t .0) (exact-of rs sub (t .1))
-
-said-front : (rs : List Row) (b : Said) (s : List ℕ) → exactRows rs ≡ true → Bytes s → readItems (saidItems rs b) s 0 ≡ got (saidValues b) → InFront (saidItems rs b) (saidValues b) s
-said-front rs (said sub vs) s x y h = items-forth (byte ∷ itemsOf rs sub) s 0 ((sub ∷ []) ∷ vs) (exact-of rs sub x) y h
+said-front : (rs : List Row) (b : Said) (s : List ℕ) → everyRow exactItems rs ≡ true → Bytes s → readItems (saidItems rs b) s 0 ≡ got (saidValues b) → InFront (saidItems rs b) (saidValues b) s
+said-front rs (said sub vs) s x y h = items-forth (byte ∷ itemsOf rs sub) s 0 ((sub ∷ []) ∷ vs) (every-of exactItems rs sub refl x) y h
 
 sheet-stands : {C : Type 0} (rs : List Row) (says : C → Said) (of : Said → C) (c : C) (t s : List ℕ) (b : Said)
     → ((sub : ℕ) (vs : List (List ℕ)) → hasRow rs sub ≡ true → okItems (itemsOf rs sub) vs ≡ true → says (of (said sub vs)) ≡ said sub vs)
-    → exactRows rs ≡ true → Bytes s → readBody rs s ≡ got b → of b ≡ c → [] ≡ t
+    → everyRow exactItems rs ≡ true → Bytes s → readBody rs s ≡ got b → of b ≡ c → [] ≡ t
     → (okItems (saidItems rs (says c)) (saidValues (says c)) ≡ true) × (Beside t × (Unit {0} → InFront (saidItems rs (says c)) (saidValues (says c)) s))
 sheet-stands rs says of c t s b law x y h e f =
     let r = sheet-read rs says of c s b law h e in
@@ -455,33 +410,6 @@ vtx-front (SetDynamicPower p) s y h k = items-forth (byte ∷ byte ∷ []) s 0 (
 vtx-front (SetPower p) s y h k = items-forth (byte ∷ byte ∷ []) s 0 ((0x08 ∷ []) ∷ (p ∷ []) ∷ []) refl y h
 
 -- ---- 0x22 Screen
-abbrev Way : List ℕ → ℕ → ScreenSaid → Type 0
-Way s sub (started q) = sub ≡ 0x01
-Way s sub (returned b) = readRow screenRows s sub ≡ got b
-
-way-of : (s : List ℕ) (sub : ℕ) (q : ScreenSaid) (t : Bool) → eqb sub 0x01 ≡ t
-    → pick t (andThen (readPopup s 1) (λ r. andThen (fitted r) (λ p. got (started p)))) (andThen (readRow screenRows s sub) (λ d. got (returned d))) ≡ got q → Way s sub q
-way-of s sub (started q) true e h = eqb-true sub 0x01 e
-way-of s sub (returned b) true e h =
-    let x = and-got (readPopup s 1) (λ r. andThen (fitted r) (λ p. got (started p))) (returned b) h in
-    let y = and-got (fitted (x .0)) (λ p. got (started p)) (returned b) (x .1 .1) in
-    let z : _≡_ {A = ℕ} 0 1 = cc in absurd (omega arith)
-way-of s sub (started q) false e h =
-    let x = and-got (readRow screenRows s sub) (λ d. got (returned d)) (started q) h in
-    let z : _≡_ {A = ℕ} 0 1 = cc in absurd (omega arith)
-way-of s sub (returned b) false e h =
-    let x = and-got (readRow screenRows s sub) (λ d. got (returned d)) (returned b) h in
-    let f : x .0 ≡ b = cc in
-    x .1 .0 ∙ ap (λ (d : Said). got d) f
-
-screen-way : (s : List ℕ) (q : ScreenSaid) → readScreen s ≡ got q → (v : List ℕ) × ((readItem byte (drop 0 s) ≡ got v) × Way s (first v) q)
-screen-way s q h =
-    let x = and-got (readItem byte (drop 0 s)) (λ v.
-    pick (eqb (first v) 0x01)
-    (andThen (readPopup s 1) (λ r. andThen (fitted r) (λ p. got (started p))))
-    (andThen (readRow screenRows s (first v)) (λ d. got (returned d)))) q h in
-    (x .0, (x .1 .0, way-of s (first (x .0)) q (eqb (first (x .0)) 0x01) refl (x .1 .1)))
-
 start-ok : (q : Popup) → okPopup q ≡ true → okItems (startItems q) (startValues q) ≡ true
 start-ok (popup k p vs) o = passed (alone k p) (okItems (popupItems k p) vs) o .1
 
@@ -543,19 +471,14 @@ ack-by s a t y h k =
     let l = loose-range s (ackSays a t) h .0 in
     (ack-ok a t (read-ok ackLoose (ackSays a t) s h) k, ((bytes-left t (0 ∷ []) (bytes-left (t ++ 0 ∷ []) [] (w .1 .1 .1)), omega arith), λ z. f))
 
-action-of : (t : Bool) (ws vs : List (List ℕ)) → pick t (got ws) (refused 2 0) ≡ got vs → (t ≡ true) × (ws ≡ vs)
-action-of true ws vs h = (refl, cc)
-action-of false ws vs h = let z : _≡_ {A = ℕ} 0 1 = cc in absurd (omega arith)
-
 ack-stands : (s : List ℕ) (vs : List (List ℕ)) → Bytes s → readAck s ≡ got vs → Stands (Ack (ackOf vs)) (getD vs 3 []) s
 ack-stands s vs y h =
-    let p = and-got (readItems ackLoose s 0) (λ ws. pick (actionOk ws) (got ws) (refused 2 0)) vs h in
-    let a = action-of (actionOk (p .0)) (p .0) vs (p .1 .1) in
-    let f : p .0 ≡ ackSays (ackOf vs) (getD vs 3 []) = a .1 ∙ sym (ack-fixed s vs h) in
-    ack-by s (ackOf vs) (getD vs 3 []) y (p .1 .0 ∙ ap (λ (ws : List (List ℕ)). got ws) f) (subst (λ (ws : List (List ℕ)). actionOk ws ≡ true) f (a .0))
+    let r = ack-read s vs h in
+    let f : vs ≡ ackSays (ackOf vs) (getD vs 3 []) = sym (ack-fixed s vs h) in
+    ack-by s (ackOf vs) (getD vs 3 []) y (r .0 ∙ ap (λ (ws : List (List ℕ)). got ws) f) (subst (λ (ws : List (List ℕ)). actionOk ws ≡ true) f (r .1))
 
 -- ---- of every family
-screen-by : (s : List ℕ) (c : ScreenCommand) (t : List ℕ) (q : ScreenSaid) → Bytes s → readScreen s ≡ got q → keptScreen q ≡ kept (Screen c) t → Stands (Screen c) t s
+screen-by : (s : List ℕ) (c : ScreenCommand) (t : List ℕ) (q : ScreenSaid) → Bytes s → readScreen s ≡ got q → screenWithStored q ≡ withStored (Screen c) t → Stands (Screen c) t s
 screen-by s c t (started q) y h e =
     let f : PopupMessageStart ≡ c = cc in
     let g : writePopup q ≡ t = cc in
@@ -565,35 +488,35 @@ screen-by s c t (returned b) y h e =
     let g : [] ≡ t = cc in
     subst (λ (d : ScreenCommand). Stands (Screen d) t s) f (return-stands s b t y g h)
 
-family-stands : (p : CommandPayload) (t s : List ℕ) → Bytes s → readFamily (familyId p) s ≡ got (kept p t) → Stands p t s
+family-stands : (p : CommandPayload) (t s : List ℕ) → Bytes s → readFamily (familyId p) s ≡ got (withStored p t) → Stands p t s
 family-stands (Fc c) t s y h =
-    let x = and-got (readBody fcRows s) (λ b. got (kept (Fc (fcOf b)) [])) (kept (Fc c) t) h in
+    let x = and-got (readBody fcRows s) (λ b. got (withStored (Fc (fcOf b)) [])) (withStored (Fc c) t) h in
     sheet-stands fcRows fcSays fcOf c t s (x .0) fc-said refl y (x .1 .0) (cc) (cc)
 family-stands (Osd c) t s y h =
-    let x = and-got (readBody osdRows s) (λ b. got (kept (Osd (osdOf b)) [])) (kept (Osd c) t) h in
+    let x = and-got (readBody osdRows s) (λ b. got (withStored (Osd (osdOf b)) [])) (withStored (Osd c) t) h in
     sheet-stands osdRows osdSays osdOf c t s (x .0) osd-said refl y (x .1 .0) (cc) (cc)
 family-stands (Vtx c) t s y h =
-    let x = and-got (readBody vtxRows s) (λ b. got (kept (Vtx (vtxOf b)) [])) (kept (Vtx c) t) h in
+    let x = and-got (readBody vtxRows s) (λ b. got (withStored (Vtx (vtxOf b)) [])) (withStored (Vtx c) t) h in
     let r = sheet-read vtxRows vtxSays vtxOf c s (x .0) vtx-said (x .1 .0) (cc) in
     (read-ok (saidItems vtxRows (vtxSays c)) (saidValues (vtxSays c)) s r, (no-bytes t (cc), λ z. vtx-front c s y r z))
 family-stands (Led c) t s y h =
-    let x = and-got (readBody ledRows s) (λ b. got (kept (Led (ledOf b)) [])) (kept (Led c) t) h in
+    let x = and-got (readBody ledRows s) (λ b. got (withStored (Led (ledOf b)) [])) (withStored (Led c) t) h in
     sheet-stands ledRows ledSays ledOf c t s (x .0) led-said refl y (x .1 .0) (cc) (cc)
 family-stands (General c) t s y h =
-    let x = and-got (readBody generalRows s) (λ b. got (kept (General (generalOf b)) [])) (kept (General c) t) h in
+    let x = and-got (readBody generalRows s) (λ b. got (withStored (General (generalOf b)) [])) (withStored (General c) t) h in
     sheet-stands generalRows generalSays generalOf c t s (x .0) general-said refl y (x .1 .0) (cc) (cc)
 family-stands (Crossfire c) t s y h =
-    let x = and-got (readBody crossfireRows s) (λ b. got (kept (Crossfire (crossfireOf b)) [])) (kept (Crossfire c) t) h in
+    let x = and-got (readBody crossfireRows s) (λ b. got (withStored (Crossfire (crossfireOf b)) [])) (withStored (Crossfire c) t) h in
     sheet-stands crossfireRows crossfireSays crossfireOf c t s (x .0) crossfire-said refl y (x .1 .0) (cc) (cc)
 family-stands (FlowControl c) t s y h =
-    let x = and-got (readBody flowRows s) (λ b. got (kept (FlowControl (flowOf b)) [])) (kept (FlowControl c) t) h in
+    let x = and-got (readBody flowRows s) (λ b. got (withStored (FlowControl (flowOf b)) [])) (withStored (FlowControl c) t) h in
     sheet-stands flowRows flowSays flowOf c t s (x .0) flow-said refl y (x .1 .0) (cc) (cc)
 family-stands (Screen c) t s y h =
-    let x = and-got (readScreen s) (λ q. got (keptScreen q)) (kept (Screen c) t) h in
-    let e : keptScreen (x .0) ≡ kept (Screen c) t = cc in
+    let x = and-got (readScreen s) (λ q. got (screenWithStored q)) (withStored (Screen c) t) h in
+    let e : screenWithStored (x .0) ≡ withStored (Screen c) t = cc in
     screen-by s c t (x .0) y (x .1 .0) e
 family-stands (Ack a) t s y h =
-    let x = and-got (readAck s) (λ vs. got (keptAck vs)) (kept (Ack a) t) h in
+    let x = and-got (readAck s) (λ vs. got (ackWithStored vs)) (withStored (Ack a) t) h in
     let e : ackOf (x .0) ≡ a = cc in
     let f : getD (x .0) 3 [] ≡ t = cc in
     subst (λ (b : CommandAck). Stands (Ack b) t s) e (subst (λ (w : List ℕ). Stands (Ack (ackOf (x .0))) w s) f (ack-stands s (x .0) y (x .1 .0)))
@@ -606,23 +529,19 @@ Told p c =
     × ((getD p 2 0 ≡ familyId (c .payload))
     × (Stands (c .payload) (storedIn c) (bodyIn p) × (Bytes (c .bytes) × (length (c .bytes) ≡ 55)))))
 
-zero-bytes : (n : ℕ) → Bytes (replicate n 0)
-zero-bytes zero = tt
-zero-bytes (suc n) = (omega arith, zero-bytes n)
-
-told-by : (p : List ℕ) (q : CommandPayload) (t : List ℕ) → Bytes p → readFamily (getD p 2 0) (bodyIn p) ≡ got (kept q t) → Told p (commandOf (getD p 0 0) (getD p 1 0) (kept q t))
+told-by : (p : List ℕ) (q : CommandPayload) (t : List ℕ) → Bytes p → readFamily (getD p 2 0) (bodyIn p) ≡ got (withStored q t) → Told p (commandOf (getD p 0 0) (getD p 1 0) (withStored q t))
 told-by p q t y h =
     let z : Bytes (bodyIn p) = bytes-take (length p - 4) (drop 3 p) (bytes-drop 3 p y) in
-    let i : getD p 2 0 ≡ familyId q = sym (family-forth (getD p 2 0) (bodyIn p) (kept q t) z h .0) in
-    let s = family-stands q t (bodyIn p) z (subst (λ (n : ℕ). readFamily n (bodyIn p) ≡ got (kept q t)) i h) in
+    let i : getD p 2 0 ≡ familyId q = sym (family-forth (getD p 2 0) (bodyIn p) (withStored q t) z h .0) in
+    let s = family-stands q t (bodyIn p) z (subst (λ (n : ℕ). readFamily n (bodyIn p) ≡ got (withStored q t)) i h) in
     let l : length (padded 55 t) ≡ 55 = rw (length-append t (replicate (55 - length t) 0), length-replicate {A = ℕ} (55 - length t) 0) (omega (arith, s .1 .0 .1)) in
-    (refl, (refl, (i, (subst (λ (w : List ℕ). Stands q w (bodyIn p)) (sym (unpadded t)) s, (bytes-append t (replicate (55 - length t) 0) (s .1 .0 .0) (zero-bytes (55 - length t)), l)))))
+    (refl, (refl, (i, (subst (λ (w : List ℕ). Stands q w (bodyIn p)) (sym (unpadded t)) s, (bytes-append t (replicate (55 - length t) 0) (s .1 .0 .0) (bytes-zeros (55 - length t)), l)))))
 
-told-of : (p : List ℕ) (k : Kept) → Bytes p → readFamily (getD p 2 0) (bodyIn p) ≡ got k → Told p (commandOf (getD p 0 0) (getD p 1 0) k)
-told-of p (kept q t) y h = told-by p q t y h
+told-of : (p : List ℕ) (k : WithStored) → Bytes p → readFamily (getD p 2 0) (bodyIn p) ≡ got k → Told p (commandOf (getD p 0 0) (getD p 1 0) k)
+told-of p (withStored q t) y h = told-by p q t y h
 
 told : (p : List ℕ) (c : DirectCommands) → Bytes p → readCommand p ≡ got c → Told p c
-told p c y h = let r = read-parts p c h in subst (Told p) (r .1 .1 .1 .1) (told-of p (r .1 .1 .0) y (r .1 .1 .1 .0))
+told p c y h = let k = read-parts p c h .body in subst (Told p) (k .1 .1) (told-of p (k .0) y (k .1 .0))
 
 byte-at : (p : List ℕ) (i : ℕ) → Bytes p → getD p i 0 < 256
 byte-at [] i h = omega arith
@@ -678,13 +597,13 @@ as-written p c y h l g =
     let s = bodyIn p in
     let w = writeItems (bodyItems (c .payload) (storedIn c)) (bodyValues (c .payload) (storedIn c)) in
     let o = getD p 0 0 ∷ getD p 1 0 ∷ getD p 2 0 ∷ s in
-    let e : p ≡ checked o = whole p (r .0) (r .1 .0) in
-    let f : payloadOf c ≡ checked (opened c) = sound-laid c (read-sound p c y h) in
+    let e : p ≡ checked o = whole p (r .least) (r .check) in
+    let f : payloadOf c ≡ checked (itemsLaid c) = sound-laid c (read-sound p c y h) in
     let m : length s + 4 ≡ length w + 4 = sym (checked-size (getD p 0 0) (getD p 1 0) (getD p 2 0) s) ∙ (sym (ap length e) ∙ (l ∙ (ap length f ∙ checked-size (c .«dst_addr») (c .«src_addr») (familyId (c .payload)) w))) in
     let k : length s ≤ length w = omega arith in
     let d = body-clear (c .payload) (getD p 0 0) (getD p 1 0) (getD p 2 0) (checkOf commandPolynomial (0x32 ∷ o)) s (subst (PitClear (c .payload)) e g) in
     let i : s ≡ w = sym (take-all (length w) s k) ∙ t .1 .1 .1 .0 .1 .1 d in
-    let j : o ≡ opened c = alike (t .0) (t .1 .0) (t .1 .1 .0) i in
+    let j : o ≡ itemsLaid c = alike (t .0) (t .1 .0) (t .1 .1 .0) i in
     e ∙ (ap (λ (x : List ℕ). checked x) j ∙ sym f)
   where
     alike : {a b d a' b' d' : ℕ} {s w : List ℕ} → a ≡ a' → b ≡ b' → d ≡ d' → s ≡ w → a ∷ b ∷ d ∷ s ≡ a' ∷ b' ∷ d' ∷ w

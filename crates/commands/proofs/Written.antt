@@ -2,14 +2,13 @@
 use Prim.Native.Nat.{ℕ, zero, suc, _+_, _≤_, _<_}
 use mathlib.Core.Bool.{true, false}
 use mathlib.Core.List.{List}
-use mathlib.Core.Path.{_≡_, refl, ap, _∙_}
+use mathlib.Core.Path.{_≡_, ap, _∙_}
 use native.Mathlib.Omega.{arith}
 use lib.ListN.{length, take, drop, length-append, length-drop}
 use lib.Seq.{sets, length-sets, length-take-le}
 use borrow.Author.Tests.{lt-ltb, le-ltb}
 use borrow.Rule.Slice.PartMut.{putMid, put-same}
 use Rattle.codec.specs.Writing.{writeItems}
-use Rattle.codec.specs.Refusals.{refusalNumber}
 use Rattle.codec.specs.Told.{Writes}
 use Rattle.codec.specs.declared.refusal.Refusal.{Refusal}
 use Rattle.codec.specs.declared.writer.Written.the-variants.{Count, Refused}
@@ -33,7 +32,7 @@ use Rattle.families.proofs.RoundTrip.{fc-known, osd-known, led-known, general-k
 use Rattle.families.proofs.Acks.{room-of}
 use Rattle.commands.specs.Command.{storedIn, made}
 use Rattle.commands.specs.Writing.{bodyOf, stopBody, opening, checked, roomOf, stopWriting}
-use Rattle.commands.specs.Writing.Text.{stop-is}
+use Rattle.commands.specs.Writing.Equation.{stop-is}
 use Rattle.commands.specs.Closing.{closed}
 use Rattle.commands.specs.declared.DirectCommands.{DirectCommands}
 use Rattle.commands.proofs.Closed.{part-put, closed-is}
@@ -108,7 +107,3 @@ stop-short c n h l = rw (stop-is c n, h, lt-ltb n 4 l)
 
 pub stop-body : (c : DirectCommands) (n : ℕ) → made c ≡ true → 4 ≤ n → stopWriting c n ≡ stopBody (c .payload) (storedIn c) (roomOf n)
 stop-body c n h l = rw (stop-is c n, h, le-ltb n 4 l)
-
-pub stopped : (stop : ℕ) (w s : List ℕ) (why : Refusal) → stop ≡ refusalNumber why → 0 < refusalNumber why → Writes stop w (Refused why) s s
-stopped zero w s why e h = absurd (omega arith)
-stopped (suc n) w s why e h = (rw e, refl)

@@ -6,9 +6,9 @@ use lib.Seq.{sets}
 use Rattle.crc.specs.Check.{payloadCheck}
 
 -- the addresses and the id before it
-abbrev pub opened : ℕ → ℕ → ℕ → List ℕ → List ℕ
-opened dst src id s = sets s 0 (dst ∷ src ∷ id ∷ [])
+abbrev pub fronted : ℕ → ℕ → ℕ → List ℕ → List ℕ
+fronted dst src id s = sets s 0 (dst ∷ src ∷ id ∷ [])
 
 -- and the check behind its n bytes
 abbrev pub closed : ℕ → ℕ → ℕ → ℕ → List ℕ → List ℕ
-closed dst src id n s = set (opened dst src id s) (n + 3) (payloadCheck (take (n + 4) (opened dst src id s)))
+closed dst src id n s = set (fronted dst src id s) (n + 3) (payloadCheck (take (n + 4) (fronted dst src id s)))

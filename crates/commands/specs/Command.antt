@@ -14,16 +14,16 @@ use Rattle.families.specs.declared.payload.CommandPayload.the-variants.{Fc, Osd
 use Rattle.commands.specs.declared.DirectCommands.{DirectCommands}
 
 -- a payload of a family, and the bytes stored beside it
-pub data Kept : Type 0 where
-  kept : CommandPayload → List ℕ → Kept
+pub data WithStored : Type 0 where
+  withStored : CommandPayload → List ℕ → WithStored
 
 -- the command of these addresses
-abbrev pub commandOf : ℕ → ℕ → Kept → DirectCommands
-commandOf dst src (kept p t) = record { «dst_addr» = dst; «src_addr» = src; payload = p; len = length t; bytes = padded 55 t }
+abbrev pub commandOf : ℕ → ℕ → WithStored → DirectCommands
+commandOf dst src (withStored p t) = record { «dst_addr» = dst; «src_addr» = src; payload = p; len = length t; bytes = padded 55 t }
 
 -- "The blank command is disarm with both addresses 0 and no stored bytes"
 abbrev pub blankCommand : DirectCommands
-blankCommand = commandOf 0 0 (kept (Fc ForceDisarm) [])
+blankCommand = commandOf 0 0 (withStored (Fc ForceDisarm) [])
 
 -- the bytes stored in a command
 abbrev pub storedIn : DirectCommands → List ℕ
@@ -37,7 +37,8 @@ abbrev pub madeScreen : ScreenCommand → ℕ → List ℕ → Bool
 madeScreen PopupMessageStart n b = madePopup (record { len = n; bytes = b })
 madeScreen (SelectionReturnValue value response) n b = madeNone n b
 
--- "popup bytes exactly what the popup constructor gives for some fields"; "An ACK's action is outside this"
+-- "popup bytes exactly what the popup constructor gives for some fields" (madePopup decides it: families/proofs/Made.antt); "An ACK's
+-- action is outside this"
 abbrev pub madeBeside : CommandPayload → ℕ → List ℕ → Bool
 madeBeside (Fc c) n b = madeNone n b
 madeBeside (Osd c) n b = madeNone n b

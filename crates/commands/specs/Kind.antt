@@ -8,7 +8,7 @@ use Rattle.codec.specs.Pick.{pick}
 use Rattle.codec.specs.Sheet.{Answer, got, refused, andThen}
 use Rattle.codec.specs.Refusals.{refusalNumber}
 use Rattle.families.specs.declared.payload.CommandPayload.{CommandPayload}
-use Rattle.commands.specs.Command.{Kept, kept}
+use Rattle.commands.specs.Command.{WithStored, withStored}
 use Rattle.commands.specs.Reading.{checkIn, readCommand}
 use Rattle.commands.specs.declared.DirectCommands.{DirectCommands}
 use Rattle.commands.specs.declared.kind.KindRead.{KindRead}
@@ -31,8 +31,8 @@ toldKind (Got payload len) = got (kind payload len)
 toldKind (Refused r) = refused (refusalNumber r) 0
 
 -- ---- for the contracts of private functions
-abbrev pub kindKept : Kept → Kind
-kindKept (kept payload t) = kind payload (length t)
+abbrev pub kindWithStored : WithStored → Kind
+kindWithStored (withStored payload t) = kind payload (length t)
 
 -- what stops reading before the body: "Length below 4 or above 60: 1. Check differs: 2."
 abbrev pub stopReading : List ℕ → ℕ

@@ -22,10 +22,10 @@ use Rattle.families.specs.Popup.{writePopup}
 use Rattle.families.specs.Screen.{ScreenSaid, started, returned, readScreen, screenOf}
 use Rattle.families.specs.declared.payload.CommandPayload.{CommandPayload}
 use Rattle.families.specs.declared.payload.CommandPayload.the-variants.{Fc, Osd, Vtx, Led, General, Crossfire, FlowControl, Screen, Ack}
-use Rattle.commands.specs.Command.{Kept, kept, commandOf, blankCommand}
+use Rattle.commands.specs.Command.{WithStored, withStored, commandOf, blankCommand}
 use Rattle.commands.specs.declared.DirectCommands.{DirectCommands}
 use Rattle.commands.specs.declared.CommandAnswer.{CommandAnswer}
-pub mod Text
+pub mod Equation
 
 -- "destination (1), source (1), command id (1), body, check (1)"
 abbrev pub bodyIn : List ℕ → List ℕ
@@ -35,19 +35,19 @@ abbrev pub checkIn : List ℕ → ℕ
 checkIn p = getD p (length p - 1) 0
 
 -- a body of a sheet: nothing is stored beside it
-abbrev pub readPlain : List Row → (Said → CommandPayload) → List ℕ → Answer Kept
-readPlain rows payload s = andThen (readBody rows s) (λ b. got (kept (payload b) []))
+abbrev pub readPlain : List Row → (Said → CommandPayload) → List ℕ → Answer WithStored
+readPlain rows payload s = andThen (readBody rows s) (λ b. got (withStored (payload b) []))
 
 -- a popup's bytes are stored, and an ACK's information
-abbrev pub keptScreen : ScreenSaid → Kept
-keptScreen (started q) = kept (Screen (screenOf (started q))) (writePopup q)
-keptScreen (returned b) = kept (Screen (screenOf (returned b))) []
+abbrev pub screenWithStored : ScreenSaid → WithStored
+screenWithStored (started q) = withStored (Screen (screenOf (started q))) (writePopup q)
+screenWithStored (returned b) = withStored (Screen (screenOf (returned b))) []
 
-abbrev pub keptAck : List (List ℕ) → Kept
-keptAck vs = kept (Ack (ackOf vs)) (getD vs 3 [])
+abbrev pub ackWithStored : List (List ℕ) → WithStored
+ackWithStored vs = withStored (Ack (ackOf vs)) (getD vs 3 [])
 
 -- "Id 0x03 or 0x13: 4. Other unknown id: 2. Then the body item by item"
-abbrev pub readFamily : ℕ → List ℕ → Answer Kept
+abbrev pub readFamily : ℕ → List ℕ → Answer WithStored
 readFamily id s =
     pick (eqb id 0x03) (refused 4 0)
     (pick (eqb id 0x13) (refused 4 0)
@@ -58,8 +58,8 @@ readFamily id s =
     (pick (eqb id 0x0A) (readPlain generalRows (λ b. General (generalOf b)) s)
     (pick (eqb id 0x10) (readPlain crossfireRows (λ b. Crossfire (crossfireOf b)) s)
     (pick (eqb id 0x20) (readPlain flowRows (λ b. FlowControl (flowOf b)) s)
-    (pick (eqb id 0x22) (andThen (readScreen s) (λ q. got (keptScreen q)))
-    (pick (eqb id 0xFF) (andThen (readAck s) (λ vs. got (keptAck vs)))
+    (pick (eqb id 0x22) (andThen (readScreen s) (λ q. got (screenWithStored q)))
+    (pick (eqb id 0xFF) (andThen (readAck s) (λ vs. got (ackWithStored vs)))
     (refused 2 0)))))))))))
 
 -- a body of this id, with these addresses

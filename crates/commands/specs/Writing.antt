@@ -21,7 +21,7 @@ use Rattle.families.specs.declared.payload.CommandPayload.{CommandPayload}
 use Rattle.families.specs.declared.payload.CommandPayload.the-variants.{Fc, Osd, Vtx, Led, General, Crossfire, FlowControl, Screen, Ack}
 use Rattle.commands.specs.Command.{storedIn, made}
 use Rattle.commands.specs.declared.DirectCommands.{DirectCommands}
-pub mod Text
+pub mod Equation
 
 -- THE body of a family, with these bytes stored beside it
 abbrev pub bodyOf : CommandPayload → List ℕ → List ℕ

@@ -5,9 +5,9 @@ ghost use mathlib.Core.List.{[]};
 ghost use Rattle.codec.specs.Sheet.{got, andThen};
 ghost use Rattle.families.specs.Ack.{readAck};
 ghost use Rattle.families.specs.Screen.{readScreen};
-ghost use Rattle.commands.specs.Command.{kept};
-ghost use Rattle.commands.specs.Reading.{readFamily, keptScreen, keptAck};
-ghost use Rattle.commands.specs.Kind.{toldKind, readKind, kindKept};
+ghost use Rattle.commands.specs.Command.{withStored};
+ghost use Rattle.commands.specs.Reading.{readFamily, screenWithStored, ackWithStored};
+ghost use Rattle.commands.specs.Kind.{toldKind, readKind, kindWithStored};
 use codec::refusal::Outcome;
 use codec::refusal::Refusal;
 use families::crossfire::CrossfireRead;
@@ -25,7 +25,7 @@ pub enum KindRead {
 }
 
 fn of_screen(body: &[u8]) -> KindRead
-    ensures { λ r. ⌜ toldKind r ≡ andThen (readScreen (now (body .entry))) (λ q. got (kindKept (keptScreen q))) ⌝ }
+    ensures { λ r. ⌜ toldKind r ≡ andThen (readScreen (now (body .entry))) (λ q. got (kindWithStored (screenWithStored q))) ⌝ }
 {
     let read = families::screen::read(body);
     let outcome = read.outcome;
@@ -41,7 +41,7 @@ fn of_screen(body: &[u8]) -> KindRead
 }
 
 fn of_ack(body: &[u8]) -> KindRead
-    ensures { λ r. ⌜ toldKind r ≡ andThen (readAck (now (body .entry))) (λ vs. got (kindKept (keptAck vs))) ⌝ }
+    ensures { λ r. ⌜ toldKind r ≡ andThen (readAck (now (body .entry))) (λ vs. got (kindWithStored (ackWithStored vs))) ⌝ }
 {
     let read = families::ack::read(body);
     let outcome = read.outcome;
@@ -57,7 +57,7 @@ fn of_ack(body: &[u8]) -> KindRead
 
 // A command that stores no bytes.
 fn plain(payload: CommandPayload) -> KindRead
-    ensures { λ r. ⌜ toldKind r ≡ got (kindKept (kept payload [])) ⌝ }
+    ensures { λ r. ⌜ toldKind r ≡ got (kindWithStored (withStored payload [])) ⌝ }
 {
     KindRead::Got {
         payload: payload,
@@ -66,7 +66,7 @@ fn plain(payload: CommandPayload) -> KindRead
 }
 
 fn of_family(id: u8, body: &[u8]) -> KindRead
-    ensures { λ r. ⌜ toldKind r ≡ andThen (readFamily id (now (body .entry))) (λ k. got (kindKept k)) ⌝ }
+    ensures { λ r. ⌜ toldKind r ≡ andThen (readFamily id (now (body .entry))) (λ k. got (kindWithStored k)) ⌝ }
 {
     match id {
         0x01 => match families::fc::read(body) {

@@ -39,6 +39,7 @@ impl DirectCommands {
     // "The least length and the frame type belong to the payload type: 4 and 0x32."
     pub const MIN_PAYLOAD_SIZE: usize = 4;
 
+    // 01 names it. The check's own 0x32 is crc's, which stands below.
     pub const PACKET_TYPE: u8 = 0x32;
 
     // Disarm, both addresses 0, no stored bytes.

@@ -1,6 +1,6 @@
 // A body, by its command id.
 ghost use Rattle.codec.specs.Sheet.{got};
-ghost use Rattle.commands.specs.Command.{kept, commandOf};
+ghost use Rattle.commands.specs.Command.{withStored, commandOf};
 ghost use Rattle.commands.specs.Reading.{readAs, CommandIs};
 ghost use mathlib.Core.List.{[]};
 use crate::CommandAnswer;
@@ -18,7 +18,7 @@ use families::vtx::VtxRead;
 
 // A command that stores no bytes.
 fn plain(dst: u8, src: u8, payload: CommandPayload) -> CommandAnswer
-    ensures { λ r. ⌜ CommandIs (got (commandOf dst src (kept payload []))) r ⌝ }
+    ensures { λ r. ⌜ CommandIs (got (commandOf dst src (withStored payload []))) r ⌝ }
 {
     CommandAnswer {
         outcome: Outcome::Accepted,

@@ -6,7 +6,8 @@ ghost use Rattle.codec.specs.Told.{Writes};
 ghost use Rattle.commands.specs.Command.{madeNone, madeScreen, madeBeside};
 ghost use Rattle.commands.specs.Writing.{bodyOf, stopBody, opening, checked, roomOf};
 ghost use Rattle.commands.specs.Closing.{closed};
-use codec::refusal::Refusal;
+use crate::DirectCommands;
+use crate::MAX_PAYLOAD_SIZE;
 use codec::writer::Written;
 use families::payload::CommandPayload;
 use families::screen::ScreenCommand;
@@ -65,10 +66,10 @@ fn room_of(n: usize) -> usize
     requires { ⌜ 4 ≤ n ⌝ }
     ensures { λ r. ⌜ (r ≡ roomOf n) × ((r + 4 ≤ n) × (r ≤ 56)) ⌝ }
 {
-    if 60 < n {
-        return 56;
+    if MAX_PAYLOAD_SIZE < n {
+        return MAX_PAYLOAD_SIZE - DirectCommands::MIN_PAYLOAD_SIZE;
     }
-    n - 4
+    n - DirectCommands::MIN_PAYLOAD_SIZE
 }
 
 // What stands around a body of n bytes: addresses and id before it, the check behind it.

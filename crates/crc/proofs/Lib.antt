@@ -9,3 +9,4 @@ pub mod Renewed
 pub mod Examples
 pub mod OneAnswer
 pub mod Promised
+pub mod RuledOut

@@ -6,8 +6,8 @@ use borrow.Fn.Kinds.{Dens, resT, endedOf}
 use denote.Triple.Clauses.{AtExit}
 use Rattle.crc.proofs.check.Reads as check
 use Rattle.crc.proofs.check.Kinds as check-kinds
-use Rattle.crc.proofs.followed.Reads as followed
-use Rattle.crc.proofs.followed.Kinds as followed-kinds
+use Rattle.crc.proofs.check_with_zeros.Reads as check-with-zeros
+use Rattle.crc.proofs.check_with_zeros.Kinds as check-with-zeros-kinds
 use Rattle.crc.proofs.payload_check.Reads as payload-check
 use Rattle.crc.proofs.payload_check.Kinds as payload-check-kinds
 
@@ -15,10 +15,10 @@ pub check-one : (κs : Lfts 1) (a : Dens κs check-kinds.ps) (x y : resT check-k
     → check.Post κs a x s → check.Post κs a y t → x ≡ y
 check-one κs a x y s t p q = p ∙ sym q
 
-pub followed-one : (κs : Lfts 0) (a : Dens κs followed-kinds.ps) (x y : resT followed-kinds.r κs .Denot)
-    (s t : AtExit (endedOf 0 followed-kinds.ps followed-kinds.r) κs)
-    → followed.Post κs a x s → followed.Post κs a y t → x ≡ y
-followed-one κs a x y s t p q = p ∙ sym q
+pub check-with-zeros-one : (κs : Lfts 0) (a : Dens κs check-with-zeros-kinds.ps) (x y : resT check-with-zeros-kinds.r κs .Denot)
+    (s t : AtExit (endedOf 0 check-with-zeros-kinds.ps check-with-zeros-kinds.r) κs)
+    → check-with-zeros.Post κs a x s → check-with-zeros.Post κs a y t → x ≡ y
+check-with-zeros-one κs a x y s t p q = p ∙ sym q
 
 pub payload-check-one : (κs : Lfts 1) (a : Dens κs payload-check-kinds.ps) (x y : resT payload-check-kinds.r κs .Denot)
     (s t : AtExit (endedOf 1 payload-check-kinds.ps payload-check-kinds.r) κs)

@@ -12,8 +12,8 @@ use Rattle.crc.proofs.Laws.{command, from-is-remainder, payload-check-i
 use Rattle.crc.proofs.Zeros.{zeros-remainder}
 use Rattle.crc.proofs.check.Reads as check
 use Rattle.crc.proofs.check.Kinds as check-kinds
-use Rattle.crc.proofs.followed.Reads as followed
-use Rattle.crc.proofs.followed.Kinds as followed-kinds
+use Rattle.crc.proofs.check_with_zeros.Reads as check-with-zeros
+use Rattle.crc.proofs.check_with_zeros.Kinds as check-with-zeros-kinds
 use Rattle.crc.proofs.payload_check.Reads as payload-check
 use Rattle.crc.proofs.payload_check.Kinds as payload-check-kinds
 
@@ -26,13 +26,13 @@ pub check-remainder : (κs : Lfts 1)
 check-remainder κs a r s p = rw p (from-is-remainder command (a .1 .0) (now (a .0)))
 
 -- the check times x^8 for each byte 00
-pub followed-remainder : (κs : Lfts 0)
-    (a : Dens κs followed-kinds.ps)
-    (r : resT followed-kinds.r κs .Denot)
-    (s : AtExit (endedOf 0 followed-kinds.ps followed-kinds.r) κs)
-    → followed.Post κs a r s
+pub check-with-zeros-remainder : (κs : Lfts 0)
+    (a : Dens κs check-with-zeros-kinds.ps)
+    (r : resT check-with-zeros-kinds.r κs .Denot)
+    (s : AtExit (endedOf 0 check-with-zeros-kinds.ps check-with-zeros-kinds.r) κs)
+    → check-with-zeros.Post κs a r s
     → Remainder commandPolynomial (a .0 * x ^ (8 * a .1 .0)) r
-followed-remainder κs a r s p = rw p (zeros-remainder command (a .1 .0) (a .0))
+check-with-zeros-remainder κs a r s p = rw p (zeros-remainder command (a .1 .0) (a .0))
 
 pub payload-check-remainder : (κs : Lfts 1)
     (a : Dens κs payload-check-kinds.ps)

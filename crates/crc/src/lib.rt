@@ -9,7 +9,7 @@ ghost use Rattle.crc.specs.Steps.{step, steps};
 const COMMAND_POLYNOMIAL: u8 = 0xBA;
 
 // The frame type, first byte of the message.
-const COMMAND_TYPE: u8 = 0x32;
+const PACKET_TYPE: u8 = 0x32;
 
 // One step of the long division. With the polynomial a constant here the compiler makes a table of the loop below.
 fn shift(r: u8) -> u8
@@ -63,7 +63,7 @@ fn turns(r: u8, n: usize) -> u8
 
 // The check after n more bytes 00, at a cost that does not grow with n: behind one of them seven more change nothing, for x^64 and
 // x^8 leave the same remainder.
-pub fn followed(check: u8, n: usize) -> u8
+pub fn check_with_zeros(check: u8, n: usize) -> u8
     ensures { λ r. ⌜ r ≡ checkFrom commandPolynomial check (replicate n 0) ⌝ }
 {
     if 7 < n {
@@ -84,5 +84,6 @@ pub fn payload_check(payload: &[u8]) -> u8
     ensures { λ r. ⌜ r ≡ payloadCheck (now (payload .entry)) ⌝ }
 {
     let end = but_last(payload.len());
-    check(&payload[..end], eight_steps(0 ^ COMMAND_TYPE))
+    // from start 0, the 0x32 taken in
+    check(&payload[..end], eight_steps(0 ^ PACKET_TYPE))
 }

@@ -5,3 +5,4 @@ pub mod OneAnswerMade
 pub mod WritesOut
 pub mod OneAnswerCommand
 pub mod OneAnswerEdits
+pub mod RuledOut

@@ -31,7 +31,7 @@ use Rattle.edits.specs.Table.{Entry, holding, nearItem, farItem, originA
 use Rattle.edits.specs.Change.{held, changed}
 use Rattle.edits.specs.Opened.{ServesAs, Serves, Opened}
 use Rattle.edits.specs.declared.table.FieldRow.{FieldRow}
-use Rattle.edits.specs.declared.sheet.Sheet.{Sheet}
+use Rattle.edits.specs.declared.layout.Layout.{Layout}
 use Rattle.edits.proofs.With.{Changed, spot-free, with-field}
 use Rattle.edits.proofs.Step.{payload-closed, top, fieldPlace, field-room, parts, stepped}
 use Rattle.edits.proofs.Served.{Found, found, set-found, set-none, field-found}
@@ -53,7 +53,7 @@ size-set (t ∷ is) (v ∷ vs) zero j n w fs e (suc k) = rw e
 size-set (t ∷ is) (v ∷ vs) (suc i) j n w fs e zero = refl
 size-set (t ∷ is) (v ∷ vs) (suc i) j n w fs e (suc k) = ap (λ (x : ℕ). sizeOf t v + x) (size-set is vs i j n w fs e k)
 
-serves-still : (c c' : DirectCommands) (vs : List (List ℕ)) (s : Sheet) → Changed c vs c' → ((k : ℕ) → placeOf (itemsIn c) vs k ≡ placeOf (itemsIn c) (valuesIn c) k)
+serves-still : (c c' : DirectCommands) (vs : List (List ℕ)) (s : Layout) → Changed c vs c' → ((k : ℕ) → placeOf (itemsIn c) vs k ≡ placeOf (itemsIn c) (valuesIn c) k)
     → Serves c s → Serves c' s
 serves-still c c' vs s g k v =
     let id = familyId (c .payload) in
@@ -79,7 +79,7 @@ powers (suc (suc (suc zero))) h = omega arith
 powers (suc (suc (suc (suc zero)))) h = omega arith
 powers (suc (suc (suc (suc (suc v))))) h = absurd (omega arith)
 
-module _ (p : List ℕ) (s : Sheet) (f n : ℕ) (o : Opened p s) where
+module _ (p : List ℕ) (s : Layout) (f n : ℕ) (o : Opened p s) where
   -- the payload is its items and the check
   long-is : length p ≡ length (writeItems (itemsIn (o .0)) (valuesIn (o .0))) + 1
   long-is = ap length (o .1 .1 .0 ∙ payload-closed (o .0) (o .1 .0)) ∙ length-append (writeItems (itemsIn (o .0)) (valuesIn (o .0))) _

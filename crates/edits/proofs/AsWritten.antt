@@ -1,4 +1,4 @@
--- A payload as the writer makes it is served by the sheet that the code finds; what is read of any other is refused. Assumes nothing.
+-- A payload as the writer makes it is served by the layout that the code finds; what is read of any other is refused. Assumes nothing.
 use Prim.Native.Nat.{ℕ, suc, _+_, _<_, _≤_}
 use mathlib.Core.Bool.{Bool, true, false}
 use mathlib.Core.List.{List, [], _∷_, _++_, append-assoc}
@@ -23,8 +23,8 @@ use Rattle.codec.proofs.Back.{both, passed, item-back}
 use Rattle.codec.proofs.Joins.{Each, none, one, each-of}
 use Rattle.codec.proofs.Same.{same-true}
 use Rattle.codec.proofs.There.{and-got}
-use Rattle.families.specs.Sheets.{label}
-use Rattle.families.specs.Popup.{Popup, popup, popupItems, chosenItems, valuesItems, alone, okPopup, writePopup}
+use Rattle.families.specs.Sheets.{textItem}
+use Rattle.families.specs.Popup.{Popup, popup, popupItems, selectionItems, valuesItems, alone, okPopup, writePopup}
 use Rattle.families.specs.Body.{popupIn, startItems, startValues, bodyItems, bodyValues}
 use Rattle.families.specs.Payload.{familyId}
 use Rattle.families.specs.declared.fc.FcCommand.the-variants.{ForceDisarm, ScaleChannel}
@@ -47,24 +47,24 @@ use Rattle.commands.specs.declared.DirectCommands.{DirectCommands}
 use Rattle.commands.specs.declared.kind.KindRead.{KindRead}
 use Rattle.commands.specs.declared.kind.KindRead.the-variants.{Got as GotKind, Refused as RefusedKind}
 use Rattle.commands.proofs.Forth.{read-writable}
-use Rattle.commands.proofs.Promised.{Sound, opened, sound-laid, PitClear, written-clear, read-sound, as-written}
+use Rattle.commands.proofs.Promised.{Sound, itemsLaid, sound-laid, PitClear, written-clear, read-sound, as-written}
 use Rattle.edits.specs.Record.{subOf, storedWith, popupWith}
 use Rattle.edits.specs.Edit.{openCommand}
 use Rattle.edits.specs.Table.{nearItem, farItem}
-use Rattle.edits.specs.Sheet.{vtxSheet, placeAfter, afterText, shown, chosen, popupFrom, popupSheet, sheetOf}
+use Rattle.edits.specs.Layout.{vtxLayout, placeAfter, afterText, shown, selection, popupFrom, popupLayout, layoutFor}
 use Rattle.edits.specs.Opened.{ServesAs, Serves, vtxPit, hasPit, fitting, unset, Opens, OpensRead}
-use Rattle.edits.specs.declared.sheet.Sheet.{Sheet}
+use Rattle.edits.specs.declared.layout.Layout.{Layout}
 use Rattle.edits.specs.declared.opening.Opening.{Opening}
 use Rattle.edits.specs.declared.opening.Opening.the-variants.{Got, Refused}
 use Rattle.edits.proofs.Held.{popup-held, NoPopup, held}
 use Rattle.edits.proofs.With.{popup-kept, stored-same, length-is}
-use Rattle.edits.proofs.Places.{popup-chosen, popup-shown}
+use Rattle.edits.proofs.Places.{popup-selection, popup-shown}
 
--- ---- the sheet tells the payload's length
+-- ---- the layout tells the payload's length
 popup-size : (n : ℕ) (s : List ℕ) (b : ℕ) → popupFrom n s b .size ≡ n + 5
 popup-size n s b = by (ltb (b + 2) (n + 4)) (eqb (getD s (b + 2) 0) 0)
   where
-    by : (t u : Bool) → pick t (pick u (shown n b) (chosen n b (afterText s (b + 2)))) (shown n b) .size ≡ n + 5
+    by : (t u : Bool) → pick t (pick u (shown n b) (selection n b (afterText s (b + 2)))) (shown n b) .size ≡ n + 5
     by true true = refl
     by true false = refl
     by false u = refl
@@ -73,7 +73,7 @@ start-length : (q : Popup) → length (writeItems (startItems q) (startValues q)
 start-length (popup k p vs) = refl
 
 size-by : (q : CommandPayload) (n : ℕ) (t p : List ℕ) → storedWith q t (bodyValues q t) ≡ t → length t ≡ n
-    → sheetOf q n p .size ≡ length (writeItems (bodyItems q t) (bodyValues q t)) + 4
+    → layoutFor q n p .size ≡ length (writeItems (bodyItems q t) (bodyValues q t)) + 4
 size-by (Fc ForceDisarm) n t p e l = refl
 size-by (Fc ScaleChannel) n t p e l = refl
 size-by (Osd c) n t p e l = refl
@@ -109,7 +109,7 @@ size-by (Screen PopupMessageStart) n t p e l =
 size-by (Screen (SelectionReturnValue v r)) n t p e l = refl
 size-by (Ack a) n t p e l = simp length-append (omega arith)
 
-pub size-is : (c : DirectCommands) → Sound c → (p : List ℕ) → sheetOf (c .payload) (c .len) p .size ≡ length (payloadOf c)
+pub size-is : (c : DirectCommands) → Sound c → (p : List ℕ) → layoutFor (c .payload) (c .len) p .size ≡ length (payloadOf c)
 size-is c z p =
     let s = stored-same (c .payload) (c .len) (c .bytes) (z .stored) (z .size) (z .isMade) in
     size-by (c .payload) (c .len) (storedIn c) p (s .0) (s .1 .1 .0) ∙ sym (length-is c (z .inRange) (z .isMade) (z .stored) (z .size))
@@ -134,12 +134,12 @@ stored-room c z =
     omega (arith, r, s .1 .1 .0, length-is c (z .inRange) (z .isMade) (z .stored) (z .size))
 
 -- ---- a popup's places, found by reading
-after-label : (pre v post : List ℕ) (n : ℕ) → length pre ≡ n → okItem label v ≡ true → n + (length v + 1) ≡ afterText (pre ++ ((v ++ 0 ∷ []) ++ post)) n
+after-label : (pre v post : List ℕ) (n : ℕ) → length pre ≡ n → okItem textItem v ≡ true → n + (length v + 1) ≡ afterText (pre ++ ((v ++ 0 ∷ []) ++ post)) n
 after-label pre v post n l o =
-    sym (ap (λ (a : Answer (List ℕ)). placeAfter n a) (ap (λ (s : List ℕ). readItem label s) (drop-at pre ((v ++ 0 ∷ []) ++ post) n l) ∙ item-back label v post refl o))
+    sym (ap (λ (a : Answer (List ℕ)). placeAfter n a) (ap (λ (s : List ℕ). readItem textItem s) (drop-at pre ((v ++ 0 ∷ []) ++ post) n l) ∙ item-back textItem v post refl o))
 
 -- header h, info i, timeout x, close flag y, then m, and the check
-module _ (dst src x y k : ℕ) (h i m : List ℕ) (a : okItem label h ≡ true) (b : okItem label i ≡ true) where
+module _ (dst src x y k : ℕ) (h i m : List ℕ) (a : okItem textItem h ≡ true) (b : okItem textItem i ≡ true) where
   abbrev written : List ℕ
   written = (h ++ 0 ∷ []) ++ ((i ++ 0 ∷ []) ++ x ∷ y ∷ m)
 
@@ -178,42 +178,42 @@ module _ (dst src x y k : ℕ) (h i m : List ℕ) (a : okItem label h ≡ true) 
   head-then : whole ≡ head ++ (m ++ k ∷ [])
   head-then = simp append-assoc
 
-  none-sheet : m ≡ [] → shown (length written) timeout ≡ popupSheet (length written) whole
-  none-sheet e =
+  none-layout : m ≡ [] → shown (length written) timeout ≡ popupLayout (length written) whole
+  none-layout e =
       let l : length m ≡ 0 = ap length e in
       popup-shown (length written) whole (4 + (length h + 1)) timeout at-info at-timeout (inr (omega (arith, l, written-length)))
 
-  empty-sheet : (r : List ℕ) → m ≡ 0 ∷ r → shown (length written) timeout ≡ popupSheet (length written) whole
-  empty-sheet r e =
+  empty-layout : (r : List ℕ) → m ≡ 0 ∷ r → shown (length written) timeout ≡ popupLayout (length written) whole
+  empty-layout r e =
       let l : length m ≡ length (0 ∷ r) = ap length e in
       let t : whole ≡ head ++ 0 ∷ (r ++ k ∷ []) = head-then ∙ ap (λ (s : List ℕ). head ++ (s ++ k ∷ [])) e in
       let z : getD whole (timeout + 2) 0 ≡ 0 = ap (λ (s : List ℕ). getD s (timeout + 2) 0) t ∙ getD-at head 0 (r ++ k ∷ []) 0 (timeout + 2) head-length in
       popup-shown (length written) whole (4 + (length h + 1)) timeout at-info at-timeout (inl (omega (arith, l, written-length), z))
 
-  chosen-sheet : (f : ℕ) (v r : List ℕ) → m ≡ ((f ∷ v) ++ 0 ∷ []) ++ r → okItem label (f ∷ v) ≡ true → (f ≡ 0 → ⊥)
-      → chosen (length written) timeout (timeout + 2 + (length (f ∷ v) + 1)) ≡ popupSheet (length written) whole
-  chosen-sheet f v r e o g =
+  selection-layout : (f : ℕ) (v r : List ℕ) → m ≡ ((f ∷ v) ++ 0 ∷ []) ++ r → okItem textItem (f ∷ v) ≡ true → (f ≡ 0 → ⊥)
+      → selection (length written) timeout (timeout + 2 + (length (f ∷ v) + 1)) ≡ popupLayout (length written) whole
+  selection-layout f v r e o g =
       let l : length m ≡ length (((f ∷ v) ++ 0 ∷ []) ++ r) = ap length e in
       let u : 0 < length (((f ∷ v) ++ 0 ∷ []) ++ r) = omega arith in
       let t : whole ≡ head ++ (((f ∷ v) ++ 0 ∷ []) ++ (r ++ k ∷ [])) = head-then ∙ (ap (λ (s : List ℕ). head ++ (s ++ k ∷ [])) e ∙ ap (λ (s : List ℕ). head ++ s) (append-assoc ((f ∷ v) ++ 0 ∷ []) r (k ∷ []))) in
       let z : getD whole (timeout + 2) 0 ≡ f = ap (λ (s : List ℕ). getD s (timeout + 2) 0) t ∙ getD-at head f ((v ++ 0 ∷ []) ++ (r ++ k ∷ [])) 0 (timeout + 2) head-length in
       let d : timeout + 2 + (length (f ∷ v) + 1) ≡ afterText whole (timeout + 2) =
       after-label head (f ∷ v) (r ++ k ∷ []) (timeout + 2) head-length o ∙ ap (λ (s : List ℕ). afterText s (timeout + 2)) (sym t) in
-      popup-chosen (length written) whole (4 + (length h + 1)) timeout (timeout + 2 + (length (f ∷ v) + 1)) at-info at-timeout (omega (arith, l, u, written-length)) (λ q. g (sym z ∙ q)) d
+      popup-selection (length written) whole (4 + (length h + 1)) timeout (timeout + 2 + (length (f ∷ v) + 1)) at-info at-timeout (omega (arith, l, u, written-length)) (λ q. g (sym z ∙ q)) d
 
 -- ---- a popup of each kind
-abbrev PopupBy : Popup → ℕ → ℕ → Sheet → Type 0
+abbrev PopupBy : Popup → ℕ → ℕ → Layout → Type 0
 PopupBy q dst src s = ServesAs 0x22 0x01 (byte ∷ byte ∷ byte ∷ startItems q) ((dst ∷ []) ∷ (src ∷ []) ∷ (0x22 ∷ []) ∷ startValues q) s
 
 abbrev PopupServed : Popup → ℕ → ℕ → ℕ → Type 0
-PopupServed q dst src k = PopupBy q dst src (popupSheet (length (writePopup q)) (dst ∷ src ∷ 0x22 ∷ 0x01 ∷ (writePopup q ++ k ∷ [])))
+PopupServed q dst src k = PopupBy q dst src (popupLayout (length (writePopup q)) (dst ∷ src ∷ 0x22 ∷ 0x01 ∷ (writePopup q ++ k ∷ [])))
 
-module _ (dst src k : ℕ) (v1 v2 v3 v4 : List ℕ) (p1 : okItem label v1 ≡ true) (p2 : okItem label v2 ≡ true) where
+module _ (dst src k : ℕ) (v1 v2 v3 v4 : List ℕ) (p1 : okItem textItem v1 ≡ true) (p2 : okItem textItem v2 ≡ true) where
   absent-serves : PopupServed (popup Absent false (v1 ∷ v2 ∷ v3 ∷ v4 ∷ [])) dst src k
   absent-serves =
       let q = popup Absent false (v1 ∷ v2 ∷ v3 ∷ v4 ∷ []) in
       let g = popup-held Absent false (v1 ∷ v2 ∷ v3 ∷ v4 ∷ []) in
-      subst (λ (s : Sheet). PopupBy q dst src s) (none-sheet dst src _ _ k v1 v2 [] p1 p2 refl) (g .0, (g .1, (omega arith, (omega arith, refl))))
+      subst (λ (s : Layout). PopupBy q dst src s) (none-layout dst src _ _ k v1 v2 [] p1 p2 refl) (g .0, (g .1, (omega arith, (omega arith, refl))))
 
   empty-serves : (p : Bool) (v5 : List ℕ) (vs : List (List ℕ)) → v5 ≡ [] → PopupServed (popup Empty p (v1 ∷ v2 ∷ v3 ∷ v4 ∷ v5 ∷ vs)) dst src k
   empty-serves p v5 vs e = subst (λ (v : List ℕ). PopupServed (popup Empty p (v1 ∷ v2 ∷ v3 ∷ v4 ∷ v ∷ vs)) dst src k) (sym e) by
@@ -226,25 +226,25 @@ module _ (dst src k : ℕ) (v1 v2 v3 v4 : List ℕ) (p1 : okItem label v1 ≡ tr
       by =
           let q = popup Empty p (v1 ∷ v2 ∷ v3 ∷ v4 ∷ [] ∷ vs) in
           let g = popup-held Empty p (v1 ∷ v2 ∷ v3 ∷ v4 ∷ [] ∷ vs) in
-          subst (λ (s : Sheet). PopupBy q dst src s) (empty-sheet dst src _ _ k v1 v2 (0 ∷ writeItems (valuesItems p) vs) p1 p2 (writeItems (valuesItems p) vs) refl) (g .0, (g .1, (omega arith, (omega arith, far p))))
+          subst (λ (s : Layout). PopupBy q dst src s) (empty-layout dst src _ _ k v1 v2 (0 ∷ writeItems (valuesItems p) vs) p1 p2 (writeItems (valuesItems p) vs) refl) (g .0, (g .1, (omega arith, (omega arith, far p))))
 
-  chosen-serves : (p : Bool) (f : ℕ) (w v5 v6 : List ℕ) (vs : List (List ℕ)) → v5 ≡ f ∷ w → okItem label (f ∷ w) ≡ true → (f ≡ 0 → ⊥)
+  selection-serves : (p : Bool) (f : ℕ) (w v5 v6 : List ℕ) (vs : List (List ℕ)) → v5 ≡ f ∷ w → okItem textItem (f ∷ w) ≡ true → (f ≡ 0 → ⊥)
       → PopupServed (popup Selection p (v1 ∷ v2 ∷ v3 ∷ v4 ∷ v5 ∷ v6 ∷ vs)) dst src k
-  chosen-serves p f w v5 v6 vs e o z = subst (λ (v : List ℕ). PopupServed (popup Selection p (v1 ∷ v2 ∷ v3 ∷ v4 ∷ v ∷ v6 ∷ vs)) dst src k) (sym e) by
+  selection-serves p f w v5 v6 vs e o z = subst (λ (v : List ℕ). PopupServed (popup Selection p (v1 ∷ v2 ∷ v3 ∷ v4 ∷ v ∷ v6 ∷ vs)) dst src k) (sym e) by
     where
       by : PopupServed (popup Selection p (v1 ∷ v2 ∷ v3 ∷ v4 ∷ (f ∷ w) ∷ v6 ∷ vs)) dst src k
       by =
           let q = popup Selection p (v1 ∷ v2 ∷ v3 ∷ v4 ∷ (f ∷ w) ∷ v6 ∷ vs) in
           let g = popup-held Selection p (v1 ∷ v2 ∷ v3 ∷ v4 ∷ (f ∷ w) ∷ v6 ∷ vs) in
-          let r = writeItems (chosenItems ++ valuesItems p) (v6 ∷ vs) in
-          subst (λ (s : Sheet). PopupBy q dst src s) (chosen-sheet dst src _ _ k v1 v2 (((f ∷ w) ++ 0 ∷ []) ++ r) p1 p2 f w r refl o z) (g .0, (g .1, (omega arith, (omega arith, omega arith))))
+          let r = writeItems (selectionItems ++ valuesItems p) (v6 ∷ vs) in
+          subst (λ (s : Layout). PopupBy q dst src s) (selection-layout dst src _ _ k v1 v2 (((f ∷ w) ++ 0 ∷ []) ++ r) p1 p2 f w r refl o z) (g .0, (g .1, (omega arith, (omega arith, omega arith))))
 
 -- additional data of one 00 has no label; a selection has one
 empty-of : (v : List ℕ) → okItem (text 0 0) v ≡ true → v ≡ []
 empty-of [] h = refl
 empty-of (b ∷ v) h = let o = both (leb (length (b ∷ v)) 0) (nonzero (b ∷ v)) h in absurd (omega (arith, leb-true (length (b ∷ v)) 0 (o .0)))
 
-label-of : (v : List ℕ) → okItem (text 1 51) v ≡ true → (f : ℕ) × ((w : List ℕ) × ((v ≡ f ∷ w) × ((okItem label (f ∷ w) ≡ true) × (f ≡ 0 → ⊥))))
+label-of : (v : List ℕ) → okItem (text 1 51) v ≡ true → (f : ℕ) × ((w : List ℕ) × ((v ≡ f ∷ w) × ((okItem textItem (f ∷ w) ≡ true) × (f ≡ 0 → ⊥))))
 label-of [] h = let z : _≡_ {A = ℕ} 0 1 = cc in absurd (omega arith)
 label-of (f ∷ w) h =
     let t = both (leb (length (f ∷ w)) 51) (nonzero (f ∷ w)) h in
@@ -257,29 +257,29 @@ popup-each Empty p vs dst src k a (one {v = v1} p1 (one {v = v2} p2 (one {v = v3
     empty-serves dst src k v1 v2 v3 v4 p1 p2 p v5 us (empty-of v5 p5)
 popup-each Selection p vs dst src k a (one {v = v1} p1 (one {v = v2} p2 (one {v = v3} p3 (one {v = v4} p4 (one {v = v5} p5 (one {v = v6} {vs = us} p6 e)))))) =
     let l = label-of v5 p5 in
-    chosen-serves dst src k v1 v2 v3 v4 p1 p2 p (l .0) (l .1 .0) v5 v6 us (l .1 .1 .0) (l .1 .1 .1 .0) (l .1 .1 .1 .1)
+    selection-serves dst src k v1 v2 v3 v4 p1 p2 p (l .0) (l .1 .0) v5 v6 us (l .1 .1 .0) (l .1 .1 .1 .0) (l .1 .1 .1 .1)
 
 popup-serves : (q : Popup) (n dst src k : ℕ) (p : List ℕ) → okPopup q ≡ true → length (writePopup q) ≡ n
-    → p ≡ (dst ∷ src ∷ 0x22 ∷ writeItems (startItems q) (startValues q)) ++ k ∷ [] → PopupBy q dst src (popupSheet n p)
+    → p ≡ (dst ∷ src ∷ 0x22 ∷ writeItems (startItems q) (startValues q)) ++ k ∷ [] → PopupBy q dst src (popupLayout n p)
 popup-serves (popup c v vs) n dst src k p o l e =
     let q = popup c v vs in
     let t = passed (alone c v) (okItems (popupItems c v) vs) o in
     let s = popup-each c v vs dst src k (t .0) (each-of (popupItems c v) vs (t .1)) in
-    subst (λ (w : List ℕ). PopupBy q dst src (popupSheet n w)) (sym e)
-    (subst (λ (i : ℕ). PopupBy q dst src (popupSheet i (dst ∷ src ∷ 0x22 ∷ 0x01 ∷ (writePopup q ++ k ∷ [])))) l s)
+    subst (λ (w : List ℕ). PopupBy q dst src (popupLayout n w)) (sym e)
+    (subst (λ (i : ℕ). PopupBy q dst src (popupLayout i (dst ∷ src ∷ 0x22 ∷ 0x01 ∷ (writePopup q ++ k ∷ [])))) l s)
 
 -- ---- every command
 module _ (n dst src : ℕ) (t p : List ℕ) where
-  abbrev ServedBy : CommandPayload → Sheet → Type 0
+  abbrev ServedBy : CommandPayload → Layout → Type 0
   ServedBy q s = ServesAs (familyId q) (subOf q) (byte ∷ byte ∷ byte ∷ bodyItems q t) ((dst ∷ []) ∷ (src ∷ []) ∷ (familyId q ∷ []) ∷ bodyValues q t) s
 
-  others-serve : (q : CommandPayload) → NoPopup q → ServedBy q (sheetOf q n p)
+  others-serve : (q : CommandPayload) → NoPopup q → ServedBy q (layoutFor q n p)
   others-serve q h = let g = held q t n p h in let r = by q h in (g .0, (g .1, r))
     where
       by : (q : CommandPayload) → NoPopup q
-          → (sheetOf q n p .end ≤ 32)
-          × ((sheetOf q n p .near ≡ placeOf (byte ∷ byte ∷ byte ∷ bodyItems q t) ((dst ∷ []) ∷ (src ∷ []) ∷ (familyId q ∷ []) ∷ bodyValues q t) (nearItem (familyId q) (subOf q)))
-          × (sheetOf q n p .far ≡ placeOf (byte ∷ byte ∷ byte ∷ bodyItems q t) ((dst ∷ []) ∷ (src ∷ []) ∷ (familyId q ∷ []) ∷ bodyValues q t) (farItem (byte ∷ byte ∷ byte ∷ bodyItems q t))))
+          → (layoutFor q n p .end ≤ 32)
+          × ((layoutFor q n p .near ≡ placeOf (byte ∷ byte ∷ byte ∷ bodyItems q t) ((dst ∷ []) ∷ (src ∷ []) ∷ (familyId q ∷ []) ∷ bodyValues q t) (nearItem (familyId q) (subOf q)))
+          × (layoutFor q n p .far ≡ placeOf (byte ∷ byte ∷ byte ∷ bodyItems q t) ((dst ∷ []) ∷ (src ∷ []) ∷ (familyId q ∷ []) ∷ bodyValues q t) (farItem (byte ∷ byte ∷ byte ∷ bodyItems q t))))
       by (Fc ForceDisarm) h = (omega arith, (refl, refl))
       by (Fc ScaleChannel) h = (omega arith, (refl, refl))
       by (Osd c) h = (omega arith, (refl, refl))
@@ -312,7 +312,7 @@ module _ (n dst src : ℕ) (t p : List ℕ) where
       by (Ack a) h = (omega arith, (refl, refl))
 
 serves-by : (q : CommandPayload) (n dst src k : ℕ) (b p : List ℕ) → Bytes b → length b ≡ 55 → madeBeside q n b ≡ true
-    → p ≡ (dst ∷ src ∷ familyId q ∷ writeItems (bodyItems q (take n b)) (bodyValues q (take n b))) ++ k ∷ [] → ServedBy n dst src (take n b) p q (sheetOf q n p)
+    → p ≡ (dst ∷ src ∷ familyId q ∷ writeItems (bodyItems q (take n b)) (bodyValues q (take n b))) ++ k ∷ [] → ServedBy n dst src (take n b) p q (layoutFor q n p)
 serves-by (Fc c) n dst src k b p y l m e = others-serve n dst src (take n b) p (Fc c) tt
 serves-by (Osd c) n dst src k b p y l m e = others-serve n dst src (take n b) p (Osd c) tt
 serves-by (Vtx c) n dst src k b p y l m e = others-serve n dst src (take n b) p (Vtx c) tt
@@ -326,10 +326,10 @@ serves-by (Screen PopupMessageStart) n dst src k b p y l m e =
 serves-by (Screen (SelectionReturnValue v r)) n dst src k b p y l m e = others-serve n dst src (take n b) p (Screen (SelectionReturnValue v r)) tt
 serves-by (Ack a) n dst src k b p y l m e = others-serve n dst src (take n b) p (Ack a) tt
 
--- THE law: on what the writer makes of it, the sheet that the code finds serves the command
-pub serves : (c : DirectCommands) → Sound c → (p : List ℕ) → p ≡ payloadOf c → Serves c (sheetOf (c .payload) (c .len) p)
+-- THE law: on what the writer makes of it, the layout that the code finds serves the command
+pub serves : (c : DirectCommands) → Sound c → (p : List ℕ) → p ≡ payloadOf c → Serves c (layoutFor (c .payload) (c .len) p)
 serves c z p e =
-    serves-by (c .payload) (c .len) (c .«dst_addr») (c .«src_addr») (checkOf commandPolynomial (0x32 ∷ opened c)) (c .bytes) p (z .stored) (z .size) (z .isMade) (e ∙ sound-laid c z)
+    serves-by (c .payload) (c .len) (c .«dst_addr») (c .«src_addr») (checkOf commandPolynomial (0x32 ∷ itemsLaid c)) (c .bytes) p (z .stored) (z .size) (z .isMade) (e ∙ sound-laid c z)
 
 -- ---- what is read is judged
 -- read, and not as written
@@ -374,11 +374,11 @@ pit-clear q p h = by (pit-or q p) h
     by (inr x) (inl e) = let g : true ≡ false = sym (x .0) ∙ e in let z : _≡_ {A = ℕ} 0 1 = cc in absurd (omega arith)
     by (inr x) (inr l) = x .1 .1 l
 
-module _ (q : CommandPayload) (n : ℕ) (p : List ℕ) (s : Sheet) (d : s ≡ sheetOf q n p) (y : Bytes p) where
+module _ (q : CommandPayload) (n : ℕ) (p : List ℕ) (s : Layout) (d : s ≡ layoutFor q n p) (y : Bytes p) where
   size-read : (c : DirectCommands) → c .payload ≡ q → c .len ≡ n → readCommand p ≡ got c → s .size ≡ length (payloadOf c)
   size-read c e f h =
-      let u : s ≡ sheetOf (c .payload) (c .len) p = rw (e, f) d in
-      ap (λ (r : Sheet). r .size) u ∙ size-is c (read-sound p c y h) p
+      let u : s ≡ layoutFor (c .payload) (c .len) p = rw (e, f) d in
+      ap (λ (r : Layout). r .size) u ∙ size-is c (read-sound p c y h) p
 
   -- of another length
   judged-longer : (length p ≡ s .size → ⊥) → OpensRead q n p (Refused NotAsWritten)
@@ -394,10 +394,10 @@ module _ (q : CommandPayload) (n : ℕ) (p : List ℕ) (s : Sheet) (d : s ≡ sh
   judged-good : length p ≡ s .size → (hasPit q ≡ false) ⊎ (getD p 4 0 < 128) → OpensRead q n p (Got s)
   judged-good l g c e f h =
       let z = read-sound p c y h in
-      let u : sheetOf (c .payload) (c .len) p ≡ s = rw (e, f) (sym d) in
+      let u : layoutFor (c .payload) (c .len) p ≡ s = rw (e, f) (sym d) in
       let k : PitClear (c .payload) p = rw e (pit-clear q p g) in
       let w : p ≡ payloadOf c = as-written p c y h (l ∙ size-read c e f h) k in
-      (c, (z, (w, subst (λ (r : Sheet). Serves c r) u (serves c z p w))))
+      (c, (z, (w, subst (λ (r : Layout). Serves c r) u (serves c z p w))))
 
   -- the length decides where no such bit is set
   judged-fits : (hasPit q ≡ false) ⊎ (getD p 4 0 < 128) → OpensRead q n p (fitting s (length p))
@@ -408,7 +408,7 @@ module _ (q : CommandPayload) (n : ℕ) (p : List ℕ) (s : Sheet) (d : s ≡ sh
       by false e = judged-longer (eqb-false (length p) (s .size) e)
 
 -- the code's answer, of a command that has no pit byte
-pub judged : (q k : CommandPayload) (n : ℕ) (p : List ℕ) (s : Sheet) (r : Opening) → q ≡ k → s ≡ sheetOf k n p → hasPit k ≡ false → Bytes p
+pub judged : (q k : CommandPayload) (n : ℕ) (p : List ℕ) (s : Layout) (r : Opening) → q ≡ k → s ≡ layoutFor k n p → hasPit k ≡ false → Bytes p
     → r ≡ fitting s (length p) → OpensRead q n p r
 judged q k n p s r e d f y g = rw (e, g) (judged-fits k n p s d y (inl f))
 
@@ -431,15 +431,15 @@ unset-clear c p o (inr (inl h)) = rw (le-ltb 4 (length p) h) (by (vtxPit c))
 unset-clear c p o (inr (inr h)) = rw h
 
 pub judged-vtx : (q : CommandPayload) (c : VtxCommand) (n : ℕ) (p : List ℕ) (r : Opening) → q ≡ Vtx c → Bytes p
-    → r ≡ unset c p (fitting (vtxSheet c) (length p)) → OpensRead q n p r
+    → r ≡ unset c p (fitting (vtxLayout c) (length p)) → OpensRead q n p r
 judged-vtx q c n p r e y g = rw (e, g) (by (vtxPit c) (ltb 4 (length p)) (ltb 127 (getD p 4 0)) refl refl refl)
   where
-    low : (hasPit (Vtx c) ≡ false) ⊎ (getD p 4 0 < 128) → OpensRead (Vtx c) n p (fitting (vtxSheet c) (length p))
-    low = judged-fits (Vtx c) n p (vtxSheet c) refl y
+    low : (hasPit (Vtx c) ≡ false) ⊎ (getD p 4 0 < 128) → OpensRead (Vtx c) n p (fitting (vtxLayout c) (length p))
+    low = judged-fits (Vtx c) n p (vtxLayout c) refl y
 
     by : (t u v : Bool) → vtxPit c ≡ t → ltb 4 (length p) ≡ u → ltb 127 (getD p 4 0) ≡ v
-        → OpensRead (Vtx c) n p (pick t (pick u (pick v (Refused NotAsWritten) (fitting (vtxSheet c) (length p))) (fitting (vtxSheet c) (length p))) (fitting (vtxSheet c) (length p)))
-    by true true true h i j = judged-set (Vtx c) n p (vtxSheet c) refl y h (ltb-true 127 (getD p 4 0) j)
+        → OpensRead (Vtx c) n p (pick t (pick u (pick v (Refused NotAsWritten) (fitting (vtxLayout c) (length p))) (fitting (vtxLayout c) (length p))) (fitting (vtxLayout c) (length p)))
+    by true true true h i j = judged-set (Vtx c) n p (vtxLayout c) refl y h (ltb-true 127 (getD p 4 0) j)
     by true true false h i j = low (inr (let l = ltb-false 127 (getD p 4 0) j in omega (arith, l)))
     by true false v h i j = low (inr (let l = List·getD-eq-default p 0 (ltb-false 4 (length p) i) in omega (arith, l)))
     by false u v h i j = low (inl h)

@@ -27,7 +27,7 @@ use Rattle.families.specs.declared.payload.CommandPayload.the-variants.{Fc, Osd
 use Rattle.edits.specs.Fields.{Listed, everywhere, listed, fields, spotIn}
 use Rattle.edits.specs.Record.{subOf}
 use Rattle.edits.specs.Table.{Entry, sheetRow, straight, searched, rowsOf}
-use Rattle.edits.specs.Sheet.{sheetOf}
+use Rattle.edits.specs.Layout.{layoutFor}
 
 -- ---- a number among numbers
 abbrev among : ℕ → List ℕ → Bool
@@ -113,7 +113,7 @@ abbrev opening : List Item → List Item
 opening is = byte ∷ byte ∷ byte ∷ is
 
 abbrev HeldFor : CommandPayload → List ℕ → ℕ → List ℕ → Type 0
-HeldFor q t n s = Held (familyId q) (subOf q) (opening (bodyItems q t)) (sheetOf q n s .first) (sheetOf q n s .end)
+HeldFor q t n s = Held (familyId q) (subOf q) (opening (bodyItems q t)) (layoutFor q n s .first) (layoutFor q n s .end)
 
 -- ---- a popup has its rows by its kind
 abbrev pub popupEnd : ScreenAdditionalData → ℕ

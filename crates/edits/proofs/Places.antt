@@ -21,40 +21,40 @@ use Rattle.codec.specs.declared.reader.TextRead.{TextRead}
 use Rattle.codec.specs.declared.reader.TextRead.the-variants.{Got as GotText, Refused as RefusedText}
 use Rattle.codec.proofs.Forth.{bytes-drop, bytes-number}
 use Rattle.codec.proofs.Items.{number-is, ltb-zero}
-use Rattle.families.specs.Sheets.{label}
-use Rattle.edits.specs.Sheet.{placeAfter, afterText, shown, chosen, popupFrom, popupSheet}
+use Rattle.families.specs.Sheets.{textItem}
+use Rattle.edits.specs.Layout.{placeAfter, afterText, shown, selection, popupFrom, popupLayout}
 
 -- ---- the place after a text
-pub after-got : (s : List ℕ) (at n next : ℕ) (r : TextRead) → r ≡ GotText n next → (toldText s at r ≡ readItem label (drop at s)) × textIn s at r
+pub after-got : (s : List ℕ) (at n next : ℕ) (r : TextRead) → r ≡ GotText n next → (toldText s at r ≡ readItem textItem (drop at s)) × textIn s at r
     → (next ≡ afterText s at) × (next ≤ length s)
 after-got s at n next r e h =
-    let told : toldText s at (GotText n next) ≡ readItem label (drop at s) = rw e at (h .0) in
+    let told : toldText s at (GotText n next) ≡ readItem textItem (drop at s) = rw e at (h .0) in
     let there : textIn s at (GotText n next) = rw e at (h .1) in
     let l : length (take n (drop at s)) ≡ n = length-take-le n (drop at s) (rw length-drop (omega (arith, there .0))) in
     let a : afterText s at ≡ at + (length (take n (drop at s)) + 1) = sym (ap (λ (x : Answer (List ℕ)). placeAfter at x) told) in
     (omega (arith, l, a, there .1), omega (arith, there .0, there .1))
 
-pub after-none : (s : List ℕ) (at : ℕ) (r : TextRead) (k : Refusal) → r ≡ RefusedText k → (toldText s at r ≡ readItem label (drop at s)) × textIn s at r
+pub after-none : (s : List ℕ) (at : ℕ) (r : TextRead) (k : Refusal) → r ≡ RefusedText k → (toldText s at r ≡ readItem textItem (drop at s)) × textIn s at r
     → (0 ≡ afterText s at) × (0 ≤ length s)
 after-none s at r k e h =
-    let told : toldText s at (RefusedText k) ≡ readItem label (drop at s) = rw e at (h .0) in
+    let told : toldText s at (RefusedText k) ≡ readItem textItem (drop at s) = rw e at (h .0) in
     (ap (λ (x : Answer (List ℕ)). placeAfter at x) told, omega arith)
 
 -- ---- a popup
-chosen-from : (n : ℕ) (s : List ℕ) (b d : ℕ) → b + 2 < n + 4 → (getD s (b + 2) 0 ≡ 0 → ⊥) → d ≡ afterText s (b + 2) → chosen n b d ≡ popupFrom n s b
-chosen-from n s b d h g e = rw (lt-ltb (b + 2) (n + 4) h, ne-eqb (getD s (b + 2) 0) 0 g, e)
+selection-from : (n : ℕ) (s : List ℕ) (b d : ℕ) → b + 2 < n + 4 → (getD s (b + 2) 0 ≡ 0 → ⊥) → d ≡ afterText s (b + 2) → selection n b d ≡ popupFrom n s b
+selection-from n s b d h g e = rw (lt-ltb (b + 2) (n + 4) h, ne-eqb (getD s (b + 2) 0) 0 g, e)
 
-pub popup-chosen : (n : ℕ) (s : List ℕ) (a b d : ℕ) → a ≡ afterText s 4 → b ≡ afterText s a → b + 2 < n + 4 → (getD s (b + 2) 0 ≡ 0 → ⊥)
-    → d ≡ afterText s (b + 2) → chosen n b d ≡ popupSheet n s
-popup-chosen n s a b d x y h g e =
-    chosen-from n s b d h g e ∙ ap (λ (k : ℕ). popupFrom n s k) (y ∙ ap (λ (k : ℕ). afterText s k) x)
+pub popup-selection : (n : ℕ) (s : List ℕ) (a b d : ℕ) → a ≡ afterText s 4 → b ≡ afterText s a → b + 2 < n + 4 → (getD s (b + 2) 0 ≡ 0 → ⊥)
+    → d ≡ afterText s (b + 2) → selection n b d ≡ popupLayout n s
+popup-selection n s a b d x y h g e =
+    selection-from n s b d h g e ∙ ap (λ (k : ℕ). popupFrom n s k) (y ∙ ap (λ (k : ℕ). afterText s k) x)
 
 shown-from : (n : ℕ) (s : List ℕ) (b : ℕ) → ((b + 2 < n + 4) × (getD s (b + 2) 0 ≡ 0)) ⊎ (n + 4 ≤ b + 2) → shown n b ≡ popupFrom n s b
 shown-from n s b (inl h) = rw (lt-ltb (b + 2) (n + 4) (h .0), eq-eqb (getD s (b + 2) 0) 0 (h .1))
 shown-from n s b (inr h) = rw (le-ltb (b + 2) (n + 4) h)
 
 pub popup-shown : (n : ℕ) (s : List ℕ) (a b : ℕ) → a ≡ afterText s 4 → b ≡ afterText s a
-    → ((b + 2 < n + 4) × (getD s (b + 2) 0 ≡ 0)) ⊎ (n + 4 ≤ b + 2) → shown n b ≡ popupSheet n s
+    → ((b + 2 < n + 4) × (getD s (b + 2) 0 ≡ 0)) ⊎ (n + 4 ≤ b + 2) → shown n b ≡ popupLayout n s
 popup-shown n s a b x y h = shown-from n s b h ∙ ap (λ (k : ℕ). popupFrom n s k) (y ∙ ap (λ (k : ℕ). afterText s k) x)
 
 -- ---- four bytes, big-endian

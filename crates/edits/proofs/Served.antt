@@ -1,4 +1,4 @@
--- What a sheet that serves a command tells of each field number: none, or a row, with the item and the place that it stands for. Assumes
+-- What a layout that serves a command tells of each field number: none, or a row, with the item and the place that it stands for. Assumes
 -- nothing.
 use Prim.Native.Nat.{ℕ, zero, suc, _+_, _-_, _<_, _≤_}
 use mathlib.Core.Bool.{Bool, true}
@@ -22,7 +22,7 @@ use Rattle.edits.specs.Record.{subOf, itemsIn, valuesIn}
 use Rattle.edits.specs.Edit.{fieldOf, fieldAt, spotOf, withField, setField}
 use Rattle.edits.specs.Table.{Origin, Start, Near, Far, Entry, originAt, rowOf, itemRow, sizes, noTexts, straightTo, straightBy, originOf, anchor, placedRow, sheetRow, searched, rowsOf}
 use Rattle.edits.specs.Opened.{Serves}
-use Rattle.edits.specs.declared.sheet.Sheet.{Sheet}
+use Rattle.edits.specs.declared.layout.Layout.{Layout}
 use Rattle.edits.proofs.With.{items-ok, field-of}
 use Rattle.edits.proofs.Step.{packed-there}
 
@@ -49,7 +49,7 @@ place-from (u ∷ is) (v ∷ vs) (suc a) (suc i) e h l t =
     rw k (omega (arith, g))
 
 -- ---- a row that is found
-pub record Found (c : DirectCommands) (s : Sheet) (f : ℕ) (r : Entry) : Type 0 where
+pub record Found (c : DirectCommands) (s : Layout) (f : ℕ) (r : Entry) : Type 0 where
   pub item : ℕ
   pub index : ℕ
   pub wide : ℕ
@@ -69,7 +69,7 @@ pub record Found (c : DirectCommands) (s : Sheet) (f : ℕ) (r : Entry) : Type 0
 abbrev start : DirectCommands → ℕ → ℕ
 start c f = anchor (originOf f) (familyId (c .payload)) (subOf (c .payload)) (itemsIn c)
 
-origin-place : (c : DirectCommands) (s : Sheet) → Serves c s → (o : Origin)
+origin-place : (c : DirectCommands) (s : Layout) → Serves c s → (o : Origin)
     → originAt o (s .near) (s .far) ≡ placeOf (itemsIn c) (valuesIn c) (anchor o (familyId (c .payload)) (subOf (c .payload)) (itemsIn c))
 origin-place c s v Start = refl
 origin-place c s v Near = v .1 .1 .1 .0
@@ -78,7 +78,7 @@ origin-place c s v Far = v .1 .1 .1 .1
 straight-is : (is : List Item) (a i j : ℕ) (x : Answer Spot) (y : Answer Entry) (r : Entry) → x ≡ got (spot i j) → y ≡ got r → straightBy is a x y ≡ true → straightTo is a i ≡ true
 straight-is is a i j x y r e f h = rw (e, f) at h
 
-module _ (c : DirectCommands) (s : Sheet) (f : ℕ) (z : Sound c) (v : Serves c s) where
+module _ (c : DirectCommands) (s : Layout) (f : ℕ) (z : Sound c) (v : Serves c s) where
   found-at : (r : Entry) (i j : ℕ) (t : Item) → spotOf c f ≡ got (spot i j) → sheetRow (familyId (c .payload)) (subOf (c .payload)) (itemsIn c) f ≡ got r
       → getD (itemsIn c) i (text 0 0) ≡ t → itemRow f (originOf f) (sizes (take (i - start c f) (drop (start c f) (itemsIn c)))) t j ≡ got r → Found c s f r
   found-at r i j (text least most) e h k g = let x : _≡_ {A = ℕ} 0 1 = cc in absurd (omega arith)

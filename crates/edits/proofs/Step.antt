@@ -25,7 +25,7 @@ use Rattle.families.specs.Payload.{familyId}
 use Rattle.commands.specs.Command.{storedIn}
 use Rattle.commands.specs.Writing.{payloadOf}
 use Rattle.commands.specs.declared.DirectCommands.{DirectCommands}
-use Rattle.commands.proofs.Promised.{Sound, opened, id-byte, sound-laid, sound-bytes}
+use Rattle.commands.proofs.Promised.{Sound, itemsLaid, id-byte, sound-laid, sound-bytes}
 use Rattle.edits.specs.Fields.{spot}
 use Rattle.edits.specs.Record.{itemsIn, valuesIn}
 use Rattle.edits.specs.Edit.{fieldAt, withField}
@@ -83,7 +83,7 @@ payload-closed c z =
     let d = byte-item (c .«dst_addr») (z .destination) in
     let r = byte-item (c .«src_addr») (z .source) in
     let f = byte-item (familyId (c .payload)) (id-byte (c .payload)) in
-    let o : writeItems (itemsIn c) (valuesIn c) ≡ opened c = ap (λ (l : List ℕ). l ++ (itemBytes byte (c .«src_addr» ∷ []) ++ (itemBytes byte (familyId (c .payload) ∷ []) ++ s))) d
+    let o : writeItems (itemsIn c) (valuesIn c) ≡ itemsLaid c = ap (λ (l : List ℕ). l ++ (itemBytes byte (c .«src_addr» ∷ []) ++ (itemBytes byte (familyId (c .payload) ∷ []) ++ s))) d
     ∙ ap (λ (l : List ℕ). c .«dst_addr» ∷ (l ++ (itemBytes byte (familyId (c .payload) ∷ []) ++ s))) r
     ∙ ap (λ (l : List ℕ). c .«dst_addr» ∷ c .«src_addr» ∷ (l ++ s)) f in
     sound-laid c z ∙ sym (ap closed o)

@@ -16,7 +16,7 @@ use Rattle.codec.proofs.Writes.{refusal-some}
 use Rattle.commands.specs.declared.DirectCommands.{DirectCommands}
 use Rattle.edits.specs.Edit.{Edit, edit, setField, openCommand, editCommand, EditIs, numbersOf, bytesAfter, editsFrom, editsIn, stopList, leftBy, ListIs}
 use Rattle.edits.specs.Opened.{Opened, Opens}
-use Rattle.edits.specs.declared.sheet.Sheet.{Sheet}
+use Rattle.edits.specs.declared.layout.Layout.{Layout}
 use Rattle.edits.specs.declared.opening.Opening.{Opening}
 use Rattle.edits.specs.declared.opening.Opening.the-variants.{Got, Refused}
 
@@ -64,7 +64,7 @@ turns-end es count p₀ a₀ p a i h t =
     (sym (t .0 ∙ ap (λ (k : ℕ). bytesAfter p (editsFrom k s)) g), sym (t .1 ∙ ap (λ (k : ℕ). sets a i (numbersOf p (editsFrom k s))) g))
 
 -- ---- what opening told
-pub opened-is : (p : List ℕ) (r : Opening) (s : Sheet) → r ≡ Got s → Opens p r → Opened p s
+pub opened-is : (p : List ℕ) (r : Opening) (s : Layout) → r ≡ Got s → Opens p r → Opened p s
 opened-is p r s e h = subst (λ (x : Opening). Opens p x) e h
 
 pub refused-is : (p : List ℕ) (o : Opening) (r : Refusal) → o ≡ Refused r → Opens p o → numberIn (openCommand p) ≡ refusalNumber r

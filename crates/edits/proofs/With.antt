@@ -49,12 +49,12 @@ use Rattle.families.specs.declared.payload.CommandPayload.the-variants.{Fc, Osd
 use Rattle.families.proofs.RoundTrip.{fc-known, osd-known, vtx-known, led-known, general-known, crossfire-known, flow-known}
 use Rattle.families.proofs.Said.{fc-said, osd-said, vtx-said, led-said, general-said, crossfire-said, flow-said, return-said}
 use Rattle.families.proofs.TextLaws.{made-padded, made-stands}
-use Rattle.families.proofs.Made.{inspect-of, made-decided, single-of}
+use Rattle.families.proofs.Made.{inspect-of, made-decided, single-of, constructed}
 use Rattle.families.proofs.Answered.{unpadded}
-use Rattle.commands.specs.Command.{kept, commandOf, storedIn, madeNone, madeBeside, made}
+use Rattle.commands.specs.Command.{withStored, commandOf, storedIn, madeNone, madeBeside, made}
 use Rattle.commands.specs.Writing.{payloadOf}
 use Rattle.commands.specs.declared.DirectCommands.{DirectCommands}
-use Rattle.commands.proofs.Promised.{Sound, payload-laid, id-byte, popup-in, constructed}
+use Rattle.commands.proofs.Promised.{Sound, payload-laid, id-byte, popup-in}
 use Rattle.edits.specs.Fields.{spot, Standing, of, Listed, everywhere, listed, fields, itemIn, spotIn}
 use Rattle.edits.specs.Record.{saidSub, subOf, itemsIn, valuesIn, saidBy, payloadWith, popupWith, storedWith}
 use Rattle.edits.specs.Edit.{fieldOf, fieldAt, spotOf, withField}
@@ -422,13 +422,13 @@ command-with : (c : DirectCommands) (dst src : ℕ) (us : List (List ℕ)) → S
     → Beside (c .payload) (storedIn c) us
     → length (writeItems (bodyItems (c .payload) (storedIn c)) us) ≡ length (writeItems (bodyItems (c .payload) (storedIn c)) (bodyValues (c .payload) (storedIn c)))
     → Changed c ((dst ∷ []) ∷ (src ∷ []) ∷ (familyId (c .payload) ∷ []) ∷ us)
-    (commandOf dst src (kept (payloadWith (c .payload) us) (storedWith (c .payload) (storedIn c) us)))
+    (commandOf dst src (withStored (payloadWith (c .payload) us) (storedWith (c .payload) (storedIn c) us)))
 command-with c dst src us s d e o g y n =
     let p = c .payload in
     let t = storedIn c in
     let q = payloadWith p us in
     let w = storedWith p t us in
-    let x : DirectCommands = commandOf dst src (kept q w) in
+    let x : DirectCommands = commandOf dst src (withStored q w) in
     let r = body-with p (c .len) (c .bytes) us (s .stored) (s .size) (s .isMade) o g (y .1) in
     let k : storedIn x ≡ w = unpadded w in
     let i : bodyItems q (storedIn x) ≡ bodyItems p t = ap (λ (a : List ℕ). bodyItems q a) k ∙ r .0 in

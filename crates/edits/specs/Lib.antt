@@ -3,6 +3,6 @@ pub mod Record
 pub mod Edit
 pub mod Demand
 pub mod Table
-pub mod Sheet
+pub mod Layout
 pub mod Change
 pub mod Opened

@@ -1,4 +1,4 @@
--- A payload as written whose sheet is known, and edits applied to it. For the contracts of private functions: nobody has to believe this
+-- A payload as written whose layout is known, and edits applied to it. For the contracts of private functions: nobody has to believe this
 -- file. Assumes nothing.
 use Prim.Native.Nat.{ℕ, _≤_}
 use mathlib.Core.Bool.{Bool, true, false}
@@ -23,23 +23,23 @@ use Rattle.commands.proofs.Promised.{Sound}
 use Rattle.edits.specs.Record.{subOf, itemsIn, valuesIn}
 use Rattle.edits.specs.Edit.{openCommand}
 use Rattle.edits.specs.Table.{nearItem, farItem, sheetRow, straight, searched, rowsOf}
-use Rattle.edits.specs.declared.sheet.Sheet.{Sheet}
+use Rattle.edits.specs.declared.layout.Layout.{Layout}
 use Rattle.edits.specs.declared.opening.Opening.{Opening}
 use Rattle.edits.specs.declared.opening.Opening.the-variants.{Got, Refused}
 
--- a sheet serves a command of this family, sub-command, items and values: the rows that it tells are those that 01's list gives, for
+-- a layout serves a command of this family, sub-command, items and values: the rows that it tells are those that 01's list gives, for
 -- every field number; and so are the places
-abbrev pub ServesAs : ℕ → ℕ → List Item → List (List ℕ) → Sheet → Type 0
+abbrev pub ServesAs : ℕ → ℕ → List Item → List (List ℕ) → Layout → Type 0
 ServesAs id sub is vs s =
     ((f : ℕ) → sheetRow id sub is f ≡ searched (rowsOf (s .first) (s .end)) f)
     × (((f : ℕ) → straight id sub is f ≡ true)
     × ((s .end ≤ 32) × ((s .near ≡ placeOf is vs (nearItem id sub)) × (s .far ≡ placeOf is vs (farItem is)))))
 
-abbrev pub Serves : DirectCommands → Sheet → Type 0
+abbrev pub Serves : DirectCommands → Layout → Type 0
 Serves c s = ServesAs (familyId (c .payload)) (subOf (c .payload)) (itemsIn c) (valuesIn c) s
 
--- p is what the writer makes of a command that the sheet serves
-abbrev pub Opened : List ℕ → Sheet → Type 0
+-- p is what the writer makes of a command that the layout serves
+abbrev pub Opened : List ℕ → Layout → Type 0
 Opened p s = (c : DirectCommands) × (Sound c × ((p ≡ payloadOf c) × Serves c s))
 
 -- the one bit that reading ignores: bit 7 of a pit byte
@@ -61,8 +61,8 @@ hasPit (FlowControl c) = false
 hasPit (Screen c) = false
 hasPit (Ack a) = false
 
--- what is told of a command as its sheet and the payload's length are known; and, of a pit command, the pit byte
-abbrev pub fitting : Sheet → ℕ → Opening
+-- what is told of a command as its layout and the payload's length are known; and, of a pit command, the pit byte
+abbrev pub fitting : Layout → ℕ → Opening
 fitting s n = pick (eqb n (s .size)) (Got s) (Refused NotAsWritten)
 
 abbrev pub unset : VtxCommand → List ℕ → Opening → Opening

@@ -20,7 +20,7 @@ use Rattle.families.specs.declared.screen.ScreenCommand.{ScreenCommand}
 use Rattle.families.specs.declared.screen.ScreenCommand.the-variants.{PopupMessageStart, SelectionReturnValue}
 use Rattle.families.specs.declared.payload.CommandPayload.{CommandPayload}
 use Rattle.families.specs.declared.payload.CommandPayload.the-variants.{Fc, Osd, Vtx, Led, General, Crossfire, FlowControl, Screen, Ack}
-use Rattle.commands.specs.Command.{kept, commandOf, storedIn}
+use Rattle.commands.specs.Command.{withStored, commandOf, storedIn}
 use Rattle.commands.specs.declared.DirectCommands.{DirectCommands}
 
 -- its sub-command; an ACK has none and counts as 0
@@ -92,4 +92,4 @@ storedWith (Ack a) t vs = getD vs 3 []
 abbrev pub withValues : DirectCommands → List (List ℕ) → DirectCommands
 withValues c vs =
     commandOf (itemNumber vs 0) (itemNumber vs 1)
-    (kept (payloadWith (c .payload) (drop 3 vs)) (storedWith (c .payload) (storedIn c) (drop 3 vs)))
+    (withStored (payloadWith (c .payload) (drop 3 vs)) (storedWith (c .payload) (storedIn c) (drop 3 vs)))

@@ -24,8 +24,8 @@ pub data Origin : Type 0 where
   Near : Origin
   Far : Origin
 
--- a row: number, how many bytes hold the field, its range, their place from an origin; in their number it counts in units, and has so many
--- values
+-- a row: number, how many bytes hold the field, its range, and the place of those bytes from an origin; in the number n of those bytes
+-- the field is n / unit % many
 pub record Entry : Type 0 where
   pub number : ℕ
   pub width : ℕ

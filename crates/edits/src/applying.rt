@@ -1,4 +1,4 @@
-// Edits applied to a payload that is open: its sheet is known, and nothing is read again.
+// Edits applied to a payload that is open: its layout is known, and nothing is read again.
 ghost use mathlib.Core.Path.{_≡_};
 ghost use Prim.Native.Nat.{_+_, _*_, _≤_};
 ghost use lib.ListN.{length, take, drop, replicate};
@@ -6,18 +6,18 @@ ghost use lib.Seq.{sets};
 ghost use Rattle.codec.specs.Digits.{numberOf};
 ghost use Rattle.edits.specs.Edit.{editCommand, EditIs, numbersOf, bytesAfter, editsFrom};
 ghost use Rattle.edits.specs.Opened.{Opened};
-use crate::sheet::Sheet;
+use crate::layout::Layout;
 use codec::reader::NumberRead;
 use codec::reader::Width;
 use codec::refusal::Refusal;
 
 // The number of one edit.
-pub(crate) fn apply(payload: &mut [u8], sheet: Sheet, field: u32, number: u32) -> u8
-    requires { ⌜ Opened (now payload) sheet ⌝ }
-    ensures { λ r. ⌜ EditIs (editCommand (now (payload .entry)) field number) r (now (payload .entry)) (now (payload .exit)) × Opened (now (payload .exit)) sheet ⌝ }
+pub(crate) fn apply(payload: &mut [u8], layout: Layout, field: u32, number: u32) -> u8
+    requires { ⌜ Opened (now payload) layout ⌝ }
+    ensures { λ r. ⌜ EditIs (editCommand (now (payload .entry)) field number) r (now (payload .entry)) (now (payload .exit)) × Opened (now (payload .exit)) layout ⌝ }
 {
-    let row = crate::table::row(field, sheet.near, sheet.far);
-    if !crate::table::among(row.index, sheet.first, sheet.end) {
+    let row = crate::table::row(field, layout.near, layout.far);
+    if !crate::table::among(row.index, layout.first, layout.end) {
         return codec::refusal::number(Refusal::NoSuchField);
     }
     if number < row.low {
@@ -44,19 +44,19 @@ fn long_at(s: &[u8], at: usize) -> u32
 // The first `count` edits, in turn.
 pub(crate) fn apply_each(
     payload: &mut [u8],
-    sheet: Sheet,
+    layout: Layout,
     edits: &[u8],
     answers: &mut [u8],
     count: usize,
 )
-    requires { ⌜ Opened (now payload) sheet × ((count * 8 ≤ length (now edits)) × (count ≤ length (now answers))) ⌝ }
+    requires { ⌜ Opened (now payload) layout × ((count * 8 ≤ length (now edits)) × (count ≤ length (now answers))) ⌝ }
     ensures { λ r. ⌜ (now (payload .exit) ≡ bytesAfter (now (payload .entry)) (editsFrom count (now (edits .entry)))) × (now (answers .exit) ≡ sets (now (answers .entry)) 0 (numbersOf (now (payload .entry)) (editsFrom count (now (edits .entry))))) ⌝ }
 {
     let mut i: usize = 0;
     while i < count {
         let field = long_at(edits, i * 8);
         let number = long_at(edits, i * 8 + 4);
-        answers[i] = apply(payload, sheet, field, number);
+        answers[i] = apply(payload, layout, field, number);
         i += 1;
     }
 }

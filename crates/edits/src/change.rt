@@ -51,7 +51,7 @@ fn change_byte(s: &mut [u8], at: usize, unit: u32, many: u64, n: u32)
     let x = s[at];
     let y = (replace(x as u32, unit, many, n) % 256) as u8;
     s[at] = y;
-    s[last] = s[last] ^ crc::followed(x ^ y, last - at);
+    s[last] = s[last] ^ crc::check_with_zeros(x ^ y, last - at);
 }
 
 // More bytes are changed by way of their number, and checked before and after.
@@ -64,7 +64,7 @@ fn change_bytes(s: &mut [u8], at: usize, w: usize, unit: u32, many: u64, n: u32)
     let before = crc::check(&s[at..end], 0);
     put_field(s, at, w, unit, many, n);
     let after = crc::check(&s[at..end], 0);
-    s[last] = s[last] ^ crc::followed(before ^ after, last - end);
+    s[last] = s[last] ^ crc::check_with_zeros(before ^ after, last - end);
 }
 
 // The check is renewed from the field's bytes alone; what stands behind them costs at most seven steps.

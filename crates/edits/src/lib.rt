@@ -5,8 +5,8 @@ use codec::refusal::Refusal;
 
 mod applying;
 mod change;
+mod layout;
 mod opening;
-mod sheet;
 mod table;
 
 // "Order: the reader's refusal; 6 if writing what was read doesn't give these very bytes; 7; 8." Refused, no byte changes.
@@ -14,7 +14,7 @@ pub fn edit(payload: &mut [u8], field: u32, number: u32) -> u8
     ensures { λ r. ⌜ EditIs (editCommand (now (payload .entry)) field number) r (now (payload .entry)) (now (payload .exit)) ⌝ }
 {
     match opening::open(payload) {
-        Opening::Got(sheet) => applying::apply(payload, sheet, field, number),
+        Opening::Got(layout) => applying::apply(payload, layout, field, number),
         Opening::Refused(r) => codec::refusal::number(r),
     }
 }
@@ -31,7 +31,7 @@ pub fn edit_list(payload: &mut [u8], edits: &[u8], answers: &mut [u8]) -> u8
         return codec::refusal::number(Refusal::BufferOverflow);
     }
     match opening::open(payload) {
-        Opening::Got(sheet) => applying::apply_each(payload, sheet, edits, answers, count),
+        Opening::Got(layout) => applying::apply_each(payload, layout, edits, answers, count),
         Opening::Refused(r) => applying::answer_all(answers, count, codec::refusal::number(r)),
     }
     0

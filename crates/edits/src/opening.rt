@@ -2,25 +2,25 @@
 ghost use mathlib.Core.Path.{_≡_};
 ghost use Prim.Native.Nat.{_+_, _≤_};
 ghost use lib.ListN.{length};
-ghost use Rattle.edits.specs.Sheet.{vtxSheet};
+ghost use Rattle.edits.specs.Layout.{vtxLayout};
 ghost use Rattle.edits.specs.Opened.{fitting, unset, Opens, OpensRead};
-use crate::sheet::Sheet;
+use crate::layout::Layout;
 use codec::refusal::Refusal;
 use commands::kind::KindRead;
 use families::payload::CommandPayload;
 use families::vtx::VtxCommand;
 
 pub(crate) enum Opening {
-    Got(Sheet),
+    Got(Layout),
     Refused(Refusal),
 }
 
 // Reading ignores bytes after the last item.
-fn fits(sheet: Sheet, n: usize) -> Opening
-    ensures { λ r. ⌜ r ≡ fitting sheet n ⌝ }
+fn fits(layout: Layout, n: usize) -> Opening
+    ensures { λ r. ⌜ r ≡ fitting layout n ⌝ }
 {
-    if n == sheet.size {
-        Opening::Got(sheet)
+    if n == layout.size {
+        Opening::Got(layout)
     } else {
         Opening::Refused(Refusal::NotAsWritten)
     }
@@ -44,7 +44,7 @@ fn is_pit(c: VtxCommand) -> bool
 
 // It ignores bit 7 of a pit byte too.
 fn judge_vtx(c: VtxCommand, s: &[u8]) -> Opening
-    ensures { λ r. ⌜ r ≡ unset c (now (s .entry)) (fitting (vtxSheet c) (length (now (s .entry)))) ⌝ }
+    ensures { λ r. ⌜ r ≡ unset c (now (s .entry)) (fitting (vtxLayout c) (length (now (s .entry)))) ⌝ }
 {
     if is_pit(c) {
         if 4 < s.len() {
@@ -53,7 +53,7 @@ fn judge_vtx(c: VtxCommand, s: &[u8]) -> Opening
             }
         }
     }
-    fits(crate::sheet::of_vtx(c), s.len())
+    fits(crate::layout::of_vtx(c), s.len())
 }
 
 // What was read of s is s as written. Nothing is written to tell.
@@ -62,15 +62,15 @@ fn judge(payload: CommandPayload, n: usize, s: &[u8]) -> Opening
     ensures { λ r. ⌜ OpensRead payload n (now (s .entry)) r ⌝ }
 {
     match payload {
-        CommandPayload::Fc(_) => fits(crate::sheet::alone(), s.len()),
-        CommandPayload::Osd(_) => fits(crate::sheet::plain(6, 2, 3), s.len()),
+        CommandPayload::Fc(_) => fits(crate::layout::alone(), s.len()),
+        CommandPayload::Osd(_) => fits(crate::layout::plain(6, 2, 3), s.len()),
         CommandPayload::Vtx(c) => judge_vtx(c, s),
-        CommandPayload::Led(c) => fits(crate::sheet::of_led(c), s.len()),
-        CommandPayload::General(c) => fits(crate::sheet::of_general(c), s.len()),
-        CommandPayload::Crossfire(c) => fits(crate::sheet::of_crossfire(c), s.len()),
-        CommandPayload::FlowControl(c) => fits(crate::sheet::of_flow(c), s.len()),
-        CommandPayload::Screen(c) => fits(crate::sheet::of_screen(c, n, s), s.len()),
-        CommandPayload::Ack(_) => fits(crate::sheet::plain(n + 8, 29, 32), s.len()),
+        CommandPayload::Led(c) => fits(crate::layout::of_led(c), s.len()),
+        CommandPayload::General(c) => fits(crate::layout::of_general(c), s.len()),
+        CommandPayload::Crossfire(c) => fits(crate::layout::of_crossfire(c), s.len()),
+        CommandPayload::FlowControl(c) => fits(crate::layout::of_flow(c), s.len()),
+        CommandPayload::Screen(c) => fits(crate::layout::of_screen(c, n, s), s.len()),
+        CommandPayload::Ack(_) => fits(crate::layout::plain(n + 8, 29, 32), s.len()),
     }
 }
 

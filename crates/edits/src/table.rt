@@ -3,8 +3,8 @@ ghost use mathlib.Core.Path.{_≡_};
 ghost use Prim.Native.Nat.{_≤_};
 ghost use Rattle.edits.specs.Table.{rowWith, rowFor, isAmong};
 
-// A field: its row's index, how many bytes hold it, its range, and the place of those bytes. In their number it counts in units, and has
-// so many values.
+// A field: its row's index, how many bytes hold it, its range, and the place of those bytes. In the number n of those bytes the field
+// is n / unit % many.
 pub(crate) struct FieldRow {
     pub index: usize,
     pub width: usize,
@@ -37,7 +37,7 @@ fn of(
     }
 }
 
-// THE TABLE: number; index, width, low, high, place, unit, many. Places that are not fixed count from what the command's sheet tells: its
+// THE TABLE: number; index, width, low, high, place, unit, many. Places that are not fixed count from what the command's layout tells: its
 // only or start colour or a popup's timeout (near), a selection's value (far). In the order of 01, but 41 before 40: the rows that a
 // command has stand together. Any other number has no row, index 32. As a `match` and no array: a constant array is put on the stack anew
 // at each use.

@@ -1,5 +1,5 @@
 -- An ACK read, constructed, written, way by way; its round trip; what is accepted is made. Assumes nothing.
-use Prim.Native.Nat.{ℕ, _+_, _-_, _*_, _/_, _%_, _<_, _≤_}
+use Prim.Native.Nat.{ℕ, _+_, _/_, _%_, _<_, _≤_}
 use mathlib.Core.Bool.{Bool, true, false}
 use mathlib.Core.List.{List, [], _∷_, _++_, append-nil}
 use mathlib.Core.Path.{_≡_, refl, ap, sym, _∙_}
@@ -10,21 +10,21 @@ use lib.Dec.{ltb, leb}
 use borrow.Author.Tests.{le-ltb, le-leb, lt-leb, leb-true, leb-false, ltb-false}
 use Rattle.codec.specs.Pick.{pick}
 use Rattle.codec.specs.Digits.{numberOf}
-use Rattle.codec.specs.Sheet.{Answer, got, refused, andThen, Item, sizeOf, text, byte, field, first}
+use Rattle.codec.specs.Sheet.{Answer, got, refused, text, byte, field, first}
 use Rattle.codec.specs.Reading.{readItem, readItems}
 use Rattle.codec.specs.Writing.{nonzero, okItems, writeItems, stopRoom, counted, putAt}
 use Rattle.codec.specs.declared.refusal.Outcome.the-variants.{Accepted}
 use Rattle.codec.proofs.Items.{number-is, item-is, item-short, ltb-zero}
-use Rattle.codec.proofs.Packed.{number-ok, number-over}
+use Rattle.codec.proofs.Packed.{byte-item, number-ok, number-over}
 use Rattle.codec.proofs.Loops.{sets-append}
 use Rattle.codec.proofs.Writes.{put-fits, length-put, free}
 use Rattle.codec.proofs.Back.{items-back}
-use Rattle.codec.proofs.There.{and-got}
+use Rattle.codec.proofs.There.{and-got, items-got}
 use Rattle.codec.proofs.TextRange.{text-range}
 use Rattle.families.specs.Text.{padded}
-use Rattle.families.specs.Ack.{ackItems, ackLoose, actionOk, readAck, ackWith, ackSays, stopAck, newAck, ackOf, AckIs, madeInformation}
+use Rattle.families.specs.Ack.{ackItems, ackLoose, actionOk, readAck, ackWith, ackSays, stopAck, newAck, AckIs, madeInformation}
 use Rattle.families.specs.declared.ack.CommandAck.{CommandAck}
-use Rattle.families.proofs.TextLaws.{made-padded, made-stands, Stands}
+use Rattle.families.proofs.TextLaws.{made-padded}
 
 -- ---- the action
 pub action-in : (a : CommandAck) (t : List ℕ) → a .action ≤ 1 → actionOk (ackSays a t) ≡ true
@@ -105,12 +105,9 @@ accepted-is a s b at n h e =
     (refl, (refl, (sym (length-take-le n (drop at s) k), e)))
 
 -- ---- writing
-byte-is : (x : ℕ) → x < 256 → (x * 1 + 0) / 1 % 256 ≡ x
-byte-is x h = omega arith
-
 pub ack-bytes : (a : CommandAck) (t : List ℕ) → a .«command_id» < 256 → a .«sub_command_id» < 256 → a .action < 256
     → writeItems ackItems (ackSays a t) ≡ a .«command_id» ∷ a .«sub_command_id» ∷ a .action ∷ (t ++ 0 ∷ []) ++ []
-ack-bytes a t p q r = rw (byte-is (a .«command_id») p, byte-is (a .«sub_command_id») q, byte-is (a .action) r)
+ack-bytes a t p q r = rw (ap first (byte-item (a .«command_id») p), ap first (byte-item (a .«sub_command_id») q), ap first (byte-item (a .action) r))
 
 pub put-is : (a : CommandAck) (s s' t : List ℕ) → a .«command_id» < 256 → a .«sub_command_id» < 256 → a .action < 256 → length t + 4 ≤ length s
     → s' ≡ putAt (set (set (set s 0 (a .«command_id»)) 1 (a .«sub_command_id»)) 2 (a .action)) 3 t
@@ -184,14 +181,6 @@ pub new-made : (a : CommandAck) (t : List ℕ) (vs : List (List ℕ)) → newAck
 new-made a t vs h = let r = new-range a t vs h in rw (r .0) (made-padded 52 55 t (r .1 .1 .0) (r .1 .1 .1))
 
 -- so is what reading gives
-items-cons : (i : Item) (is : List Item) (s : List ℕ) (at : ℕ) (vs : List (List ℕ)) → readItems (i ∷ is) s at ≡ got vs
-    → (v : List ℕ) × ((ws : List (List ℕ)) × ((vs ≡ v ∷ ws) × ((readItem i (drop at s) ≡ got v) × (readItems is s (at + sizeOf i v) ≡ got ws))))
-items-cons i is s at vs h =
-    let p = and-got (readItem i (drop at s)) (λ v. andThen (readItems is s (at + sizeOf i v)) (λ ws. got (v ∷ ws))) vs h in
-    let q = and-got (readItems is s (at + sizeOf i (p .0))) (λ ws. got (p .0 ∷ ws)) vs (p .1 .1) in
-    let e : vs ≡ p .0 ∷ q .0 = cc in
-    (p .0, (q .0, (e, (p .1 .0, q .1 .0))))
-
 kept : (t : Bool) (ws vs : List (List ℕ)) → pick t (got ws) (refused 2 0) ≡ got vs → vs ≡ ws
 kept true ws vs h = cc
 kept false ws vs h = let z : _≡_ {A = ℕ} 0 1 = cc in absurd (omega arith)
@@ -199,10 +188,10 @@ kept false ws vs h = let z : _≡_ {A = ℕ} 0 1 = cc in absurd (omega arith)
 -- the text of the fourth item is in its range
 pub loose-range : (s : List ℕ) (vs : List (List ℕ)) → readItems ackLoose s 0 ≡ got vs → (length (informationIn vs) ≤ 52) × (nonzero (informationIn vs) ≡ true)
 loose-range s vs h =
-    let a = items-cons byte (byte ∷ byte ∷ text 0 52 ∷ []) s 0 vs h in
-    let b = items-cons byte (byte ∷ text 0 52 ∷ []) s 1 (a .1 .0) (a .1 .1 .1 .1) in
-    let c = items-cons byte (text 0 52 ∷ []) s 2 (b .1 .0) (b .1 .1 .1 .1) in
-    let d = items-cons (text 0 52) [] s 3 (c .1 .0) (c .1 .1 .1 .1) in
+    let a = items-got byte (byte ∷ byte ∷ text 0 52 ∷ []) s 0 vs h in
+    let b = items-got byte (byte ∷ text 0 52 ∷ []) s 1 (a .1 .0) (a .1 .1 .1 .1) in
+    let c = items-got byte (text 0 52 ∷ []) s 2 (b .1 .0) (b .1 .1 .1 .1) in
+    let d = items-got (text 0 52) [] s 3 (c .1 .0) (c .1 .1 .1 .1) in
     fourth (a .0) (b .0) (c .0) (d .0) vs (a .1 .0) (b .1 .0) (c .1 .0) (d .1 .0) (a .1 .1 .0) (b .1 .1 .0) (c .1 .1 .0) (d .1 .1 .0) (text-range 0 52 (drop 3 s) (d .0) (d .1 .1 .1 .0))
   where
     fourth : (a b c d : List ℕ) (v w x y z : List (List ℕ)) → v ≡ a ∷ w → w ≡ b ∷ x → x ≡ c ∷ y → y ≡ d ∷ z → (length d ≤ 52) × (nonzero d ≡ true)
@@ -235,10 +224,13 @@ ack-back room a t post h z l p q =
     let e : readItems ackLoose (writeItems ackItems (ackSays a t) ++ post) 0 ≡ got (ackSays a t) = items-back ackLoose (ackSays a t) [] post refl o in
     rw (e, action-in a t k)
 
--- what an ACK says fixes it and its information
-pub says-fixes : (a b : CommandAck) (t u : List ℕ) → ackSays a t ≡ ackSays b u → (a ≡ b) × (t ≡ u)
-says-fixes a b t u h = (ap ackOf h, ap informationIn h)
-
--- made information is some bytes and zeros
-pub made-information : (n : ℕ) (b : List ℕ) → madeInformation n b ≡ true → length b ≡ 55 → Stands 52 55 n b
-made-information n b h l = made-stands 52 55 n b h l (omega arith)
+-- what was read: its items, their action in range
+pub ack-read : (s : List ℕ) (vs : List (List ℕ)) → readAck s ≡ got vs → (readItems ackLoose s 0 ≡ got vs) × (actionOk vs ≡ true)
+ack-read s vs h =
+    let p = and-got (readItems ackLoose s 0) (λ (ws : List (List ℕ)). pick (actionOk ws) (got ws) (refused 2 0)) vs h in
+    by (p .0) (actionOk (p .0)) refl (p .1 .0) (p .1 .1)
+  where
+    by : (ws : List (List ℕ)) (t : Bool) → actionOk ws ≡ t → readItems ackLoose s 0 ≡ got ws → pick t (got ws) (refused 2 0) ≡ got vs
+        → (readItems ackLoose s 0 ≡ got vs) × (actionOk vs ≡ true)
+    by ws true e r g = let f : ws ≡ vs = cc in (rw f at r, rw f at e)
+    by ws false e r g = let z : _≡_ {A = ℕ} 0 1 = cc in absurd (omega arith)

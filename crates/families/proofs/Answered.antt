@@ -15,10 +15,9 @@ use Rattle.codec.proofs.There.{and-got}
 use Rattle.codec.proofs.Refused.{Some, some-got, some-refused, some-then, some-pick, item-some, items-some, row-some}
 use Rattle.families.specs.Sheets.{screenRows}
 use Rattle.families.specs.Text.{padded}
-use Rattle.families.specs.Ack.{ackLoose, actionOk, readAck, ackSays, ackOf, AckIs}
-use Rattle.families.specs.Popup.{Popup, readPopup, readMore, readRest, writePopup, fitted, headItems, moreItems, valuesItems, kindOf, remains}
+use Rattle.families.specs.Ack.{ackLoose, actionOk, readAck, ackSays, ackOf}
+use Rattle.families.specs.Popup.{Popup, readPopup, readMore, readRest, writePopup, fitted, headItems, moreItems, valuesItems, additionalOf, remains}
 use Rattle.families.specs.Screen.{started, returned, readScreen}
-use Rattle.families.specs.declared.ack.AckAnswer.{AckAnswer}
 use Rattle.families.specs.declared.screen.ScreenAdditionalData.{ScreenAdditionalData}
 
 -- ---- 0xFF ACK
@@ -71,9 +70,6 @@ ack-some s =
 pub unpadded : (t : List ℕ) → take (length t) (padded 55 t) ≡ t
 unpadded t = take-append-seam t (replicate (55 - length t) 0)
 
-pub ack-stored : (vs : List (List ℕ)) (r : AckAnswer) → AckIs (got vs) r → Fixed vs → ackSays (r .ack) (take (r .len) (r .bytes)) ≡ vs
-ack-stored vs r h f = rw (h .1 .0, h .1 .1 .0, h .1 .1 .1, unpadded (getD vs 3 [])) f
-
 -- ---- 0x22 Screen
 rest-some : (s : List ℕ) (k : ScreenAdditionalData) (h m : List (List ℕ)) (e : ℕ) → Some (readRest s k h m e)
 rest-some s k h m e = some-then (readItems (valuesItems (remains (drop e s))) s e) _ (items-some (valuesItems (remains (drop e s))) s e) (λ v. some-got _)
@@ -83,7 +79,7 @@ more-some s k h b = some-then (readItems (moreItems k) s b) _ (items-some (moreI
 
 pub popup-some : (s : List ℕ) (at : ℕ) → Some (readPopup s at)
 popup-some s at =
-    some-then (readItems headItems s at) _ (items-some headItems s at) (λ h. more-some s (kindOf (drop (endOf headItems h at) s)) h (endOf headItems h at))
+    some-then (readItems headItems s at) _ (items-some headItems s at) (λ h. more-some s (additionalOf (drop (endOf headItems h at) s)) h (endOf headItems h at))
 
 fitted-some : (q : Popup) → Some (fitted q)
 fitted-some q = some-pick (leb (length (writePopup q)) 55) _ _ (some-got q) (some-refused 1 (omega arith))

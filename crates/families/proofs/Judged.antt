@@ -22,7 +22,7 @@ use Rattle.families.specs.declared.screen.ScreenPopup.{ScreenPopup}
 use Rattle.families.specs.declared.screen.ScreenPopupFields.{ScreenPopupFields}
 use Rattle.families.specs.declared.screen.ScreenAdditionalData.{ScreenAdditionalData}
 use Rattle.families.specs.declared.screen.ScreenAdditionalData.the-variants.{Absent, Empty, Selection}
-use Rattle.families.specs.Sheets.{label}
+use Rattle.families.specs.Sheets.{textItem}
 use Rattle.families.specs.Text.{zeros, bytesIn, madeText}
 use Rattle.families.specs.Popup.{headItems, moreItems, valuesItems, popupItems, popup, alone, writePopup}
 use Rattle.families.specs.Fields.{headSays, moreSays, valuesSays, popupSays, madeMore, madeValues, madeTexts, popupOf, stopPopup, unless, construct, PopupIs, MadePopup}
@@ -33,7 +33,7 @@ use Rattle.families.proofs.PopupLaws.{groups-write}
 use Rattle.families.proofs.Made.{construct-by}
 
 -- a text that is made, in the sheet's terms
-pub text-ok : (t : CommandString) → length (t .bytes) ≡ 51 → madeText t ≡ true → (okItem label (bytesIn t) ≡ true) × ((length (bytesIn t) ≡ t .len) × (t .len ≤ 51))
+pub text-ok : (t : CommandString) → length (t .bytes) ≡ 51 → madeText t ≡ true → (okItem textItem (bytesIn t) ≡ true) × ((length (bytesIn t) ≡ t .len) × (t .len ≤ 51))
 text-ok t l h =
     let m = both (leb (t .len) 51) (pick (nonzero (bytesIn t)) (zeros (drop (t .len) (t .bytes))) false) h in
     let n = both (nonzero (bytesIn t)) (zeros (drop (t .len) (t .bytes))) (m .1) in
@@ -63,8 +63,8 @@ text-short t h = leb-true (t .len) 51 (both (leb (t .len) 51) (pick (nonzero (by
 pub head-short : (f : ScreenPopupFields) → madeTexts f ≡ true → (f .header .len ≤ 51) × (f .info .len ≤ 51)
 head-short f h = let p = made-parts f h in (text-short (f .header) (p .0), text-short (f .info) (p .1 .0))
 
-pub chosen-short : (f : ScreenPopupFields) → madeTexts f ≡ true → f .«additional_data» ≡ Selection → (f .«selection_text» .len ≤ 51) × (f .unit .len ≤ 51)
-chosen-short f h e = by (f .«additional_data») e (made-parts f h .1 .1 .0)
+pub selection-short : (f : ScreenPopupFields) → madeTexts f ≡ true → f .«additional_data» ≡ Selection → (f .«selection_text» .len ≤ 51) × (f .unit .len ≤ 51)
+selection-short f h e = by (f .«additional_data») e (made-parts f h .1 .1 .0)
   where
     by : (k : ScreenAdditionalData) → k ≡ Selection → madeMore k f ≡ true → (f .«selection_text» .len ≤ 51) × (f .unit .len ≤ 51)
     by Absent e m = let z : _≡_ {A = ℕ} 0 1 = cc in absurd (omega arith)
@@ -106,7 +106,7 @@ module _ (f : ScreenPopupFields) (z : Sized f) (r : Ranged f) (h : madeTexts f �
         simp (length-append, a .1 .0, b .1 .0) (omega arith),
       )
     where
-      first-ok : (v : List ℕ) → length v ≡ f .«selection_text» .len → okItem label v ≡ true → eqb (f .«selection_text» .len) 0 ≡ false → okItem (text 1 51) v ≡ true
+      first-ok : (v : List ℕ) → length v ≡ f .«selection_text» .len → okItem textItem v ≡ true → eqb (f .«selection_text» .len) 0 ≡ false → okItem (text 1 51) v ≡ true
       first-ok [] l o q = let y : eqb (f .«selection_text» .len) 0 ≡ true = eq-eqb (f .«selection_text» .len) 0 (sym l) in let w : _≡_ {A = ℕ} 0 1 = cc in absurd (omega arith)
       first-ok (b ∷ v) l o q = o
 

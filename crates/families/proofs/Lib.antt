@@ -17,5 +17,5 @@ pub mod PlaceLaws
 pub mod ScreenLaws
 pub mod ScreenBack
 pub mod OneAnswerScreen
-pub mod FieldPlaces
 pub mod Answered
+pub mod RuledOut

@@ -19,33 +19,26 @@ use Rattle.codec.proofs.Back.{both, passed}
 use Rattle.codec.proofs.Stops.{each-ok, each-room}
 use Rattle.codec.proofs.Joins.{Each, none, one, each-of}
 use Rattle.codec.proofs.Items.{flag-bit}
-use Rattle.families.specs.declared.text.CommandString.{CommandString}
 use Rattle.families.specs.declared.screen.ScreenPopup.{ScreenPopup}
 use Rattle.families.specs.declared.screen.ScreenPopupFields.{ScreenPopupFields}
 use Rattle.families.specs.declared.screen.ScreenAdditionalData.{ScreenAdditionalData}
 use Rattle.families.specs.declared.screen.ScreenAdditionalData.the-variants.{Absent, Empty, Selection}
-use Rattle.families.specs.Sheets.{label}
+use Rattle.families.specs.Sheets.{textItem}
 use Rattle.families.specs.Text.{zeros, textOf, bytesIn, madeText}
-use Rattle.families.specs.Popup.{popupItems, Popup, popup, alone, readPopup, okPopup, writePopup, fitted}
-use Rattle.families.specs.Fields.{headSays, moreSays, valuesSays, popupSays, madeMore, madeValues, madeTexts, popupOf, stopPopup, unless, construct, MadePopup, fieldsOf, whole, inspect, isGot, madePopup, blanked}
+use Rattle.families.specs.Popup.{popupItems, Popup, popup, alone, readPopup, okPopup, writePopup}
+use Rattle.families.specs.Fields.{headSays, moreSays, valuesSays, popupSays, madeMore, madeValues, madeTexts, popupOf, stopPopup, unless, construct, MadePopup, fieldsOf, whole, inspect, isGot, madePopup}
 use Rattle.families.specs.Sizes.{Sized}
+use Rattle.families.proofs.TextLaws.{zeros-replicate, zeros-are, made-is}
 use Rattle.families.proofs.PopupLaws.{popup-back, popup-forth}
-
-zeros-repeat : (n : ℕ) → zeros (replicate n 0) ≡ true
-zeros-repeat zero = refl
-zeros-repeat (suc n) = zeros-repeat n
-
-repeat-zeros : (s : List ℕ) → zeros s ≡ true → s ≡ replicate (length s) 0
-repeat-zeros [] h = refl
-repeat-zeros (b ∷ s) h = let t = both (eqb b 0) (zeros s) h in rw (eqb-true b 0 (t .0), ← (repeat-zeros s (t .1)))
+use Rattle.families.proofs.ScreenLaws.{bit-is}
 
 pub in-text : (v : List ℕ) → bytesIn (textOf v) ≡ v
 in-text v = take-append-seam v (replicate (51 - length v) 0)
 
-pub made-text : (v : List ℕ) → okItem label v ≡ true → madeText (textOf v) ≡ true
+pub made-text : (v : List ℕ) → okItem textItem v ≡ true → madeText (textOf v) ≡ true
 made-text v h =
     let t = both (leb (length v) 51) (nonzero v) h in
-    rw (t .0, in-text v, t .1, drop-append-seam v (replicate (51 - length v) 0)) (zeros-repeat (51 - length v))
+    rw (t .0, in-text v, t .1, drop-append-seam v (replicate (51 - length v) 0)) (zeros-replicate (51 - length v))
 
 -- the inspection of what is written
 pub inspect-of : (k : ScreenAdditionalData) (p : Bool) (vs : List (List ℕ)) → okPopup (popup k p vs) ≡ true → length (writePopup (popup k p vs)) ≤ 55
@@ -55,7 +48,7 @@ inspect-of k p vs o l =
     rw (
       le-leb (length w) 55 l,
       drop-append-seam w (replicate (55 - length w) 0),
-      zeros-repeat (55 - length w),
+      zeros-replicate (55 - length w),
       take-append-seam w (replicate (55 - length w) 0),
       popup-back [] k p vs o,
       eq-eqb (length w) (length w) refl,
@@ -80,7 +73,7 @@ empty-of : (v : List ℕ) → okItem (text 0 0) v ≡ true → [] ≡ v
 empty-of [] h = refl
 empty-of (b ∷ v) h = let o = both (leb (length (b ∷ v)) 0) (nonzero (b ∷ v)) h in absurd (omega (arith, leb-true (length (b ∷ v)) 0 (o .0)))
 
-label-of : (v : List ℕ) → okItem (text 1 51) v ≡ true → okItem label v ≡ true
+label-of : (v : List ℕ) → okItem (text 1 51) v ≡ true → okItem textItem v ≡ true
 label-of v h = passed (shorter 1 v) (pick (leb (length v) 51) (nonzero v) false) h .1
 
 pub says-fields : (k : ScreenAdditionalData) (p : Bool) (vs : List (List ℕ)) → Each (popupItems k p) vs → alone k p ≡ false → popupSays (fieldsOf (popup k p vs)) ≡ popup k p vs
@@ -159,7 +152,7 @@ popup-is : (q : ScreenPopup) (w : List ℕ) → length (q .bytes) ≡ 55 → q .
     → take (q .len) (q .bytes) ≡ w → q ≡ popupOf w
 popup-is q w l m z n t =
     let e : length (drop (q .len) (q .bytes)) ≡ 55 - length w = rw (length-drop, l, n) in
-    let d : drop (q .len) (q .bytes) ≡ replicate (55 - length w) 0 = repeat-zeros (drop (q .len) (q .bytes)) z ∙ rw e in
+    let d : drop (q .len) (q .bytes) ≡ replicate (55 - length w) 0 = zeros-are (drop (q .len) (q .bytes)) z ∙ rw e in
     let b : q .bytes ≡ w ++ replicate (55 - length w) 0 = sym (take-append-drop (q .len) (q .bytes)) ∙ rw (t, d) in
     rw (← b, n)
 
@@ -204,59 +197,48 @@ decided-made q m = rw (inspect-says (m .0) q (m .1))
 pub constructed-made : (f : ScreenPopupFields) (q : ScreenPopup) → construct f ≡ got q → madePopup q ≡ true
 constructed-made f q h = decided-made q (f, h)
 
--- what is read is made
-pub read-made : (s : List ℕ) (at : ℕ) (k : ScreenAdditionalData) (p : Bool) (vs : List (List ℕ)) → Bytes s → at ≤ length s → length s ≤ at + 55
-    → readPopup s at ≡ got (popup k p vs) → madePopup (popupOf (writePopup (popup k p vs))) ≡ true
-read-made s at k p vs y l m h =
-    let x = popup-forth s at (popup k p vs) y l h in
-    rw (inspect-of k p vs (x .0) (omega (arith, x .1 .0)))
+-- fields with absent items blank
+abbrev pub ifSelection : {A : Type 0} → ScreenAdditionalData → A → A → A
+ifSelection Absent a b = b
+ifSelection Empty a b = b
+ifSelection Selection a b = a
 
--- so is what a screen command stores
-pub fitted-made : (s : List ℕ) (at : ℕ) (q r : Popup) → Bytes s → at ≤ length s → readPopup s at ≡ got q → fitted q ≡ got r
-    → (q ≡ r) × (madePopup (popupOf (writePopup r)) ≡ true)
-fitted-made s at (popup k p vs) r y l h e = by (leb (length (writePopup (popup k p vs))) 55) refl e
-  where
-    by : (t : Bool) → leb (length (writePopup (popup k p vs))) 55 ≡ t → pick t (got (popup k p vs)) (refused 1 0) ≡ got r
-        → (popup k p vs ≡ r) × (madePopup (popupOf (writePopup r)) ≡ true)
-    by false m g = let w : _≡_ {A = ℕ} 0 1 = cc in absurd (omega arith)
-    by true m g =
-        let i : popup k p vs ≡ r = cc in
-        let o = popup-forth s at (popup k p vs) y l h .0 in
-        (i, rw (← i) (rw (inspect-of k p vs o (leb-true (length (writePopup (popup k p vs))) 55 m))))
-
-pub text-is : (t : CommandString) → length (t .bytes) ≡ 51 → madeText t ≡ true → textOf (bytesIn t) ≡ t
-text-is t l h =
-    let m = both (leb (t .len) 51) (pick (nonzero (bytesIn t)) (zeros (drop (t .len) (t .bytes))) false) h in
-    let n = both (nonzero (bytesIn t)) (zeros (drop (t .len) (t .bytes))) (m .1) in
-    let k = leb-true (t .len) 51 (m .0) in
-    let w : length (bytesIn t) ≡ t .len = length-take-le (t .len) (t .bytes) (omega arith) in
-    let e : length (drop (t .len) (t .bytes)) ≡ 51 - t .len = rw (length-drop, l) in
-    let d : replicate (51 - t .len) 0 ≡ drop (t .len) (t .bytes) = sym (repeat-zeros (drop (t .len) (t .bytes)) (n .1) ∙ rw e) in
-    rw (w, d, take-append-drop (t .len) (t .bytes))
-
-bit-is : (b : Bool) → eqb (bit b) 1 ≡ b
-bit-is true = refl
-bit-is false = refl
+abbrev pub blanked : ScreenPopupFields → ScreenPopupFields
+blanked f = record {
+  header = f .header;
+  info = f .info;
+  «max_timeout_interval» = f .«max_timeout_interval»;
+  «close_button_option» = f .«close_button_option»;
+  «additional_data» = f .«additional_data»;
+  «selection_text» = ifSelection (f .«additional_data») (f .«selection_text») (textOf []);
+  value = ifSelection (f .«additional_data») (f .value) 0;
+  «min_value» = ifSelection (f .«additional_data») (f .«min_value») 0;
+  «max_value» = ifSelection (f .«additional_data») (f .«max_value») 0;
+  «default_value» = ifSelection (f .«additional_data») (f .«default_value») 0;
+  unit = ifSelection (f .«additional_data») (f .unit) (textOf []);
+  «has_possible_values» = f .«has_possible_values»;
+  «possible_values» = pick (f .«has_possible_values») (f .«possible_values») (textOf []);
+}
 
 fields-says : (f : ScreenPopupFields) → Sized f → madeTexts f ≡ true → fieldsOf (popupSays f) ≡ blanked f
 fields-says f z h =
     let a = both (madeText (f .header)) (pick (madeText (f .info)) (pick (madeMore (f .«additional_data») f) (madeValues (f .«has_possible_values») f) false) false) h in
     let b = both (madeText (f .info)) (pick (madeMore (f .«additional_data») f) (madeValues (f .«has_possible_values») f) false) (a .1) in
     let c = both (madeMore (f .«additional_data») f) (madeValues (f .«has_possible_values») f) (b .1) in
-    by (f .«additional_data») (f .«has_possible_values») refl refl (text-is (f .header) (z .0) (a .0)) (text-is (f .info) (z .1 .0) (b .0)) (c .0) (c .1)
+    by (f .«additional_data») (f .«has_possible_values») refl refl (made-is (f .header) (z .0) (a .0)) (made-is (f .info) (z .1 .0) (b .0)) (c .0) (c .1)
   where
     by : (k : ScreenAdditionalData) (p : Bool) → f .«additional_data» ≡ k → f .«has_possible_values» ≡ p → textOf (bytesIn (f .header)) ≡ f .header → textOf (bytesIn (f .info)) ≡ f .info
         → madeMore k f ≡ true → madeValues p f ≡ true → fieldsOf (popupSays f) ≡ blanked f
-    by Absent true ek ep x y m v = rw (ek, ep, x, y, bit-is (f .«close_button_option»), text-is (f .«possible_values») (z .1 .1 .1 .1) v)
+    by Absent true ek ep x y m v = rw (ek, ep, x, y, bit-is (f .«close_button_option»), made-is (f .«possible_values») (z .1 .1 .1 .1) v)
     by Absent false ek ep x y m v = rw (ek, ep, x, y, bit-is (f .«close_button_option»))
-    by Empty true ek ep x y m v = rw (ek, ep, x, y, bit-is (f .«close_button_option»), text-is (f .«possible_values») (z .1 .1 .1 .1) v)
+    by Empty true ek ep x y m v = rw (ek, ep, x, y, bit-is (f .«close_button_option»), made-is (f .«possible_values») (z .1 .1 .1 .1) v)
     by Empty false ek ep x y m v = rw (ek, ep, x, y, bit-is (f .«close_button_option»))
     by Selection true ek ep x y m v =
         let n = both (madeText (f .«selection_text»)) (madeText (f .unit)) m in
-        rw (ek, ep, x, y, bit-is (f .«close_button_option»), text-is (f .«selection_text») (z .1 .1 .0) (n .0), text-is (f .unit) (z .1 .1 .1 .0) (n .1), text-is (f .«possible_values») (z .1 .1 .1 .1) v)
+        rw (ek, ep, x, y, bit-is (f .«close_button_option»), made-is (f .«selection_text») (z .1 .1 .0) (n .0), made-is (f .unit) (z .1 .1 .1 .0) (n .1), made-is (f .«possible_values») (z .1 .1 .1 .1) v)
     by Selection false ek ep x y m v =
         let n = both (madeText (f .«selection_text»)) (madeText (f .unit)) m in
-        rw (ek, ep, x, y, bit-is (f .«close_button_option»), text-is (f .«selection_text») (z .1 .1 .0) (n .0), text-is (f .unit) (z .1 .1 .1 .0) (n .1))
+        rw (ek, ep, x, y, bit-is (f .«close_button_option»), made-is (f .«selection_text») (z .1 .1 .0) (n .0), made-is (f .unit) (z .1 .1 .1 .0) (n .1))
 
 made-first : (m : Bool) (a : Answer ScreenPopup) (q : ScreenPopup) → pick m a (refused 5 0) ≡ got q → m ≡ true
 made-first true a q h = refl
@@ -266,3 +248,14 @@ pub inspect-construct : (f : ScreenPopupFields) (q : ScreenPopup) → Sized f �
 inspect-construct f q z h =
     inspect-says f q h ∙ ap (λ (x : ScreenPopupFields). got x)
     (fields-says f z (made-first (madeTexts f) (unless (stopPopup (popupSays f)) (popupSays f)) q h))
+
+-- what the constructor made: fields in range that fit, and their bytes
+pub constructed : (f : ScreenPopupFields) (q : ScreenPopup) → construct f ≡ got q
+    → (okPopup (popupSays f) ≡ true) × ((length (writePopup (popupSays f)) ≤ 55) × (q ≡ popupOf (writePopup (popupSays f))))
+constructed f q h = by (madeTexts f) (stopPopup (popupSays f)) refl h
+  where
+    by : (m : Bool) (n : ℕ) → stopPopup (popupSays f) ≡ n → pick m (unless n (popupSays f)) (refused 5 0) ≡ got q
+        → (okPopup (popupSays f) ≡ true) × ((length (writePopup (popupSays f)) ≤ 55) × (q ≡ popupOf (writePopup (popupSays f))))
+    by false n e g = let z : _≡_ {A = ℕ} 0 1 = cc in absurd (omega arith)
+    by true (suc n) e g = let z : _≡_ {A = ℕ} 0 1 = cc in absurd (omega arith)
+    by true zero e g = let r = says-fit f e in let i : q ≡ popupOf (writePopup (popupSays f)) = sym (cc) in (r .0, (r .1, i))

@@ -31,10 +31,10 @@ use Rattle.families.proofs.screen.ScreenPopup.fields.Kinds as fields-ki
 answer-one : (a : Answer ScreenSaid) (x y : ScreenAnswer) → ScreenIs a x → ScreenIs a y → x ≡ y
 answer-one a x y p q = rw (outcome-one (x .outcome) (y .outcome) (p .0 ∙ sym (q .0)), p .1 .0 ∙ sym (q .1 .0), p .1 .1 ∙ sym (q .1 .1))
 
-fields-answer-one : (a : Answer ScreenPopupFields) (x y : FieldsAnswer) → FieldsIs a x → FieldsIs a y → x ≡ y
+pub fields-answer-one : (a : Answer ScreenPopupFields) (x y : FieldsAnswer) → FieldsIs a x → FieldsIs a y → x ≡ y
 fields-answer-one a x y p q = rw (outcome-one (x .outcome) (y .outcome) (p .0 ∙ sym (q .0)), p .1 ∙ sym (q .1))
 
-popup-answer-one : (a : Answer ScreenPopup) (x y : PopupAnswer) → PopupIs a x → PopupIs a y → x ≡ y
+pub popup-answer-one : (a : Answer ScreenPopup) (x y : PopupAnswer) → PopupIs a x → PopupIs a y → x ≡ y
 popup-answer-one a x y p q = rw (outcome-one (x .outcome) (y .outcome) (p .0 ∙ sym (q .0)), p .1 ∙ sym (q .1))
 
 pub read-one : (κs : Lfts 1) (a : Dens κs read-kinds.ps) (x y : resT read-kinds.r κs .Denot) (s t : AtExit (endedOf 1 read-kinds.ps read-kinds.r) κs)

@@ -1,5 +1,5 @@
 -- What the parse of a popup cites: kinds by the next byte, texts with their bounds. Assumes nothing.
-use Prim.Native.Nat.{ℕ, _+_, _-_, _<_, _≤_}
+use Prim.Native.Nat.{ℕ, _+_, _<_, _≤_}
 use mathlib.Core.Bool.{Bool, true, false}
 use mathlib.Core.List.{List, [], _∷_, _++_}
 use mathlib.Core.Path.{_≡_, refl, ap, sym, _∙_}
@@ -25,8 +25,8 @@ use Rattle.codec.proofs.ReadJoin.{read-join}
 use Rattle.codec.proofs.Joins.{end-is}
 use Rattle.families.specs.declared.screen.ScreenAdditionalData.{ScreenAdditionalData}
 use Rattle.families.specs.declared.screen.ScreenAdditionalData.the-variants.{Absent, Empty, Selection}
-use Rattle.families.specs.Sheets.{label}
-use Rattle.families.specs.Popup.{headItems, chosenItems, moreItems, valuesItems, popupItems, popup, kindOf, remains, readRest, readMore, readPopup, writePopup}
+use Rattle.families.specs.Sheets.{textItem}
+use Rattle.families.specs.Popup.{headItems, selectionItems, moreItems, valuesItems, popupItems, popup, additionalOf, remains, readRest, readMore, readPopup, writePopup}
 use Rattle.families.specs.Places.{none, spanned, SpanIn, headAt, HeadIn, toldHead, headIn, fourAt, toldFour, fourIn, moreBy, noMore, MoreIs, MoreIn, toldMore, moreIn, valuesBy, ValuesIs, ValuesIn, toldValues, valuesIn, popupAt, PlacesIn}
 use Rattle.families.specs.declared.popup.Four.{Four}
 use Rattle.families.specs.declared.popup.FourRead.{FourRead}
@@ -44,14 +44,14 @@ use Rattle.families.specs.declared.popup.ValuesRead.the-variants.{Got as
 use Rattle.families.specs.declared.popup.Places.{Places}
 
 -- ---- the next byte
-pub kind-absent : (s : List ℕ) (at : ℕ) → length s ≤ at → kindOf (drop at s) ≡ Absent
+pub kind-absent : (s : List ℕ) (at : ℕ) → length s ≤ at → additionalOf (drop at s) ≡ Absent
 kind-absent s at h = rw (drop-of-length-le s h)
 
-pub kind-empty : (s : List ℕ) (at : ℕ) → at < length s → getD s at 0 ≡ 0 → kindOf (drop at s) ≡ Empty
+pub kind-empty : (s : List ℕ) (at : ℕ) → at < length s → getD s at 0 ≡ 0 → additionalOf (drop at s) ≡ Empty
 kind-empty s at h e = rw (drop-cons s at 0 h, eq-eqb (getD s at 0) 0 e)
 
-pub kind-chosen : (s : List ℕ) (at : ℕ) → at < length s → (getD s at 0 ≡ 0 → ⊥) → kindOf (drop at s) ≡ Selection
-kind-chosen s at h e = rw (drop-cons s at 0 h, ne-eqb (getD s at 0) 0 e)
+pub kind-selection : (s : List ℕ) (at : ℕ) → at < length s → (getD s at 0 ≡ 0 → ⊥) → additionalOf (drop at s) ≡ Selection
+kind-selection s at h e = rw (drop-cons s at 0 h, ne-eqb (getD s at 0) 0 e)
 
 pub none-remain : (s : List ℕ) (at : ℕ) → length s ≤ at → remains (drop at s) ≡ false
 none-remain s at h = rw (drop-of-length-le s h)
@@ -61,15 +61,15 @@ some-remain s at h = rw (drop-cons s at 0 h)
 
 -- ---- what the readers of items say, taken together
 abbrev pub TextGot : List ℕ → ℕ → ℕ → ℕ → Type 0
-TextGot s at n next = (readItem label (drop at s) ≡ got (take n (drop at s))) × ((at + (length (take n (drop at s)) + 1) ≡ next) × ((next ≡ at + (n + 1)) × ((at + n < length s) × (n ≤ 51))))
+TextGot s at n next = (readItem textItem (drop at s) ≡ got (take n (drop at s))) × ((at + (length (take n (drop at s)) + 1) ≡ next) × ((next ≡ at + (n + 1)) × ((at + n < length s) × (n ≤ 51))))
 
-pub text-got : (s : List ℕ) (at n next : ℕ) (r : TextRead) → r ≡ GotText n next → (toldText s at r ≡ readItem label (drop at s)) × textIn s at r → TextGot s at n next
+pub text-got : (s : List ℕ) (at n next : ℕ) (r : TextRead) → r ≡ GotText n next → (toldText s at r ≡ readItem textItem (drop at s)) × textIn s at r → TextGot s at n next
 text-got s at n next r e h =
-    let a : got (take n (drop at s)) ≡ readItem label (drop at s) = rw e at (h .0) in
+    let a : got (take n (drop at s)) ≡ readItem textItem (drop at s) = rw e at (h .0) in
     let b : (at + n < length s) × (next ≡ at + (n + 1)) = rw e at (h .1) in
     (sym a, (after-text s at n next b, (b .1, (b .0, text-most 51 s at n (b .0) a))))
 
-pub text-not : (s : List ℕ) (at : ℕ) (r : TextRead) (k : Refusal) → r ≡ RefusedText k → toldText s at r ≡ readItem label (drop at s) → readItem label (drop at s) ≡ refused (refusalNumber k) 0
+pub text-not : (s : List ℕ) (at : ℕ) (r : TextRead) (k : Refusal) → r ≡ RefusedText k → toldText s at r ≡ readItem textItem (drop at s) → readItem textItem (drop at s) ≡ refused (refusalNumber k) 0
 text-not s at r k e h = sym (rw e at h)
 
 abbrev pub ByteGot : List ℕ → ℕ → ℕ → Type 0
@@ -117,7 +117,7 @@ pub step3 : (at : ℕ) → at + 2 + 1 ≡ at + 3
 step3 at = omega arith
 
 pub four-got : (s : List ℕ) (at a b c d : ℕ) → ByteGot s at a → ByteGot s (at + 1) b → ByteGot s (at + 2) c → ByteGot s (at + 3) d
-    → (got (fourAt (record { value = a; least = b; greatest = c; preset = d })) ≡ readItems (byte ∷ byte ∷ byte ∷ byte ∷ []) s at) × (at + 4 ≤ length s)
+    → (got (fourAt (record { value = a; «min_value» = b; «max_value» = c; «default_value» = d })) ≡ readItems (byte ∷ byte ∷ byte ∷ byte ∷ []) s at) × (at + 4 ≤ length s)
 four-got s at a b c d x y z w =
     (rw (x .0, y .0, step2 at, z .0, step3 at, w .0), omega (arith, w .1 .1))
 
@@ -145,28 +145,28 @@ values-got s at n next x =
     let e = some-remain s at l in
     (rw (e, x .0), (sym e, ((refl, x .1 .1 .0), ((omega (arith, x .1 .1 .1 .0), x .1 .1 .1 .1), omega (arith, x .1 .1 .0, x .1 .1 .1 .0)))))
 
-pub values-not : (s : List ℕ) (at n p : ℕ) → at < length s → readItem label (drop at s) ≡ refused n p → refused n p ≡ readItems (valuesItems (remains (drop at s))) s at
+pub values-not : (s : List ℕ) (at n p : ℕ) → at < length s → readItem textItem (drop at s) ≡ refused n p → refused n p ≡ readItems (valuesItems (remains (drop at s))) s at
 values-not s at n p l h = rw (some-remain s at l, h)
 
 -- ---- additional data
 pub more-absent : (s : List ℕ) (at : ℕ) → length s ≤ at → at ≤ length s
-    → (got (moreBy Absent s (noMore Absent at)) ≡ readItems (moreItems (kindOf (drop at s))) s at) × MoreIn s at (noMore Absent at)
+    → (got (moreBy Absent s (noMore Absent at)) ≡ readItems (moreItems (additionalOf (drop at s))) s at) × MoreIn s at (noMore Absent at)
 more-absent s at h l =
     let e = kind-absent s at h in
     (rw e, (sym e, (refl, ((omega arith, omega arith), ((omega arith, omega arith), l)))))
 
 pub more-empty : (s : List ℕ) (at : ℕ) → at < length s → getD s at 0 ≡ 0
-    → (got (moreBy Empty s (noMore Empty (at + 1))) ≡ readItems (moreItems (kindOf (drop at s))) s at) × MoreIn s at (noMore Empty (at + 1))
+    → (got (moreBy Empty s (noMore Empty (at + 1))) ≡ readItems (moreItems (additionalOf (drop at s))) s at) × MoreIn s at (noMore Empty (at + 1))
 more-empty s at h z =
     let e = kind-empty s at h z in
     (rw (e, empty-text s at h z), (sym e, (refl, ((omega arith, omega arith), ((omega arith, omega arith), omega arith)))))
 
 pub more-absent-is : (s : List ℕ) (at : ℕ) (m : More) → m ≡ noMore Absent at → length s ≤ at → at ≤ length s
-    → (got (moreBy (m .kind) s m) ≡ readItems (moreItems (kindOf (drop at s))) s at) × MoreIn s at m
+    → (got (moreBy (m .kind) s m) ≡ readItems (moreItems (additionalOf (drop at s))) s at) × MoreIn s at m
 more-absent-is s at m e h l = rw e (more-absent s at h l)
 
 pub more-empty-is : (s : List ℕ) (at : ℕ) (m : More) → m ≡ noMore Empty (at + 1) → at < length s → getD s at 0 ≡ 0
-    → (got (moreBy (m .kind) s m) ≡ readItems (moreItems (kindOf (drop at s))) s at) × MoreIn s at m
+    → (got (moreBy (m .kind) s m) ≡ readItems (moreItems (additionalOf (drop at s))) s at) × MoreIn s at m
 more-empty-is s at m e h z = rw e (more-empty s at h z)
 
 abbrev fourBytes : List Item
@@ -175,32 +175,32 @@ fourBytes = byte ∷ byte ∷ byte ∷ byte ∷ []
 four-end : (f : Four) (p : ℕ) → endOf fourBytes (fourAt f) p ≡ p + 4
 four-end f p = omega arith
 
-chosen-read : (s : List ℕ) (p : ℕ) (f : Four) (u q : ℕ) → got (fourAt f) ≡ readItems fourBytes s p → TextGot s (p + 4) u q
-    → readItems chosenItems s p ≡ got (fourAt f ++ (take u (drop (p + 4) s) ∷ []))
-chosen-read s p f u q e x = read-join fourBytes (label ∷ []) s p ∙ rw (← e, four-end f p, x .0)
+selection-read : (s : List ℕ) (p : ℕ) (f : Four) (u q : ℕ) → got (fourAt f) ≡ readItems fourBytes s p → TextGot s (p + 4) u q
+    → readItems selectionItems s p ≡ got (fourAt f ++ (take u (drop (p + 4) s) ∷ []))
+selection-read s p f u q e x = read-join fourBytes (textItem ∷ []) s p ∙ rw (← e, four-end f p, x .0)
 
-unit-not : (s : List ℕ) (p : ℕ) (f : Four) (n k : ℕ) → got (fourAt f) ≡ readItems fourBytes s p → readItem label (drop (p + 4) s) ≡ refused n k
-    → readItems chosenItems s p ≡ refused n k
-unit-not s p f n k e x = read-join fourBytes (label ∷ []) s p ∙ rw (← e, four-end f p, x)
+unit-not : (s : List ℕ) (p : ℕ) (f : Four) (n k : ℕ) → got (fourAt f) ≡ readItems fourBytes s p → readItem textItem (drop (p + 4) s) ≡ refused n k
+    → readItems selectionItems s p ≡ refused n k
+unit-not s p f n k e x = read-join fourBytes (textItem ∷ []) s p ∙ rw (← e, four-end f p, x)
 
-four-not : (s : List ℕ) (p n k : ℕ) → refused n k ≡ readItems fourBytes s p → readItems chosenItems s p ≡ refused n k
-four-not s p n k e = read-join fourBytes (label ∷ []) s p ∙ rw (← e)
+four-not : (s : List ℕ) (p n k : ℕ) → refused n k ≡ readItems fourBytes s p → readItems selectionItems s p ≡ refused n k
+four-not s p n k e = read-join fourBytes (textItem ∷ []) s p ∙ rw (← e)
 
 -- a selection: its label, then the rest
-chosen-is : (s : List ℕ) (at l p : ℕ) → at < length s → (getD s at 0 ≡ 0 → ⊥) → TextGot s at l p
-    → readItems (moreItems (kindOf (drop at s))) s at ≡ andThen (readItems chosenItems s p) (λ vs. got (take l (drop at s) ∷ vs))
-chosen-is s at l p h z x = rw (kind-chosen s at h z, label-text 51 s at h z, x .0, x .1 .0)
+selection-is : (s : List ℕ) (at l p : ℕ) → at < length s → (getD s at 0 ≡ 0 → ⊥) → TextGot s at l p
+    → readItems (moreItems (additionalOf (drop at s))) s at ≡ andThen (readItems selectionItems s p) (λ vs. got (take l (drop at s) ∷ vs))
+selection-is s at l p h z x = rw (kind-selection s at h z, label-text 51 s at h z, x .0, x .1 .0)
 
-abbrev pub chosenOf : ℕ → ℕ → ℕ → Four → ℕ → ℕ → More
-chosenOf at l p f u q = record { kind = Selection; label = record { at = at; len = l }; four = f; unit = record { at = p + 4; len = u }; next = q }
+abbrev pub selectionOf : ℕ → ℕ → ℕ → Four → ℕ → ℕ → More
+selectionOf at l p f u q = record { kind = Selection; label = record { at = at; len = l }; four = f; unit = record { at = p + 4; len = u }; next = q }
 
-pub chosen-got : (s : List ℕ) (at l p : ℕ) (f : Four) (u q : ℕ) → at < length s → (getD s at 0 ≡ 0 → ⊥) → TextGot s at l p
+pub selection-got : (s : List ℕ) (at l p : ℕ) (f : Four) (u q : ℕ) → at < length s → (getD s at 0 ≡ 0 → ⊥) → TextGot s at l p
     → got (fourAt f) ≡ readItems fourBytes s p → TextGot s (p + 4) u q
-    → (got (moreBy Selection s (chosenOf at l p f u q)) ≡ readItems (moreItems (kindOf (drop at s))) s at) × MoreIn s at (chosenOf at l p f u q)
-chosen-got s at l p f u q h z x e y = (
-  sym (chosen-is s at l p h z x ∙ ap (λ (a : Answer (List (List ℕ))). andThen a (λ vs. got (take l (drop at s) ∷ vs))) (chosen-read s p f u q e y)),
+    → (got (moreBy Selection s (selectionOf at l p f u q)) ≡ readItems (moreItems (additionalOf (drop at s))) s at) × MoreIn s at (selectionOf at l p f u q)
+selection-got s at l p f u q h z x e y = (
+  sym (selection-is s at l p h z x ∙ ap (λ (a : Answer (List (List ℕ))). andThen a (λ vs. got (take l (drop at s) ∷ vs))) (selection-read s p f u q e y)),
   (
-    sym (kind-chosen s at h z),
+    sym (kind-selection s at h z),
     (
       (refl, (rw (x .1 .1 .0), y .1 .1 .0)),
       (
@@ -211,19 +211,19 @@ chosen-got s at l p f u q h z x e y = (
   ),
 )
 
-pub chosen-unit-not : (s : List ℕ) (at l p : ℕ) (f : Four) (n k : ℕ) → at < length s → (getD s at 0 ≡ 0 → ⊥) → TextGot s at l p
-    → got (fourAt f) ≡ readItems fourBytes s p → readItem label (drop (p + 4) s) ≡ refused n k → refused n k ≡ readItems (moreItems (kindOf (drop at s))) s at
-chosen-unit-not s at l p f n k h z x e y =
-    sym (chosen-is s at l p h z x ∙ ap (λ (a : Answer (List (List ℕ))). andThen a (λ vs. got (take l (drop at s) ∷ vs))) (unit-not s p f n k e y))
+pub selection-unit-not : (s : List ℕ) (at l p : ℕ) (f : Four) (n k : ℕ) → at < length s → (getD s at 0 ≡ 0 → ⊥) → TextGot s at l p
+    → got (fourAt f) ≡ readItems fourBytes s p → readItem textItem (drop (p + 4) s) ≡ refused n k → refused n k ≡ readItems (moreItems (additionalOf (drop at s))) s at
+selection-unit-not s at l p f n k h z x e y =
+    sym (selection-is s at l p h z x ∙ ap (λ (a : Answer (List (List ℕ))). andThen a (λ vs. got (take l (drop at s) ∷ vs))) (unit-not s p f n k e y))
 
-pub chosen-four-not : (s : List ℕ) (at l p n k : ℕ) → at < length s → (getD s at 0 ≡ 0 → ⊥) → TextGot s at l p
-    → refused n k ≡ readItems fourBytes s p → refused n k ≡ readItems (moreItems (kindOf (drop at s))) s at
-chosen-four-not s at l p n k h z x e =
-    sym (chosen-is s at l p h z x ∙ ap (λ (a : Answer (List (List ℕ))). andThen a (λ vs. got (take l (drop at s) ∷ vs))) (four-not s p n k e))
+pub selection-four-not : (s : List ℕ) (at l p n k : ℕ) → at < length s → (getD s at 0 ≡ 0 → ⊥) → TextGot s at l p
+    → refused n k ≡ readItems fourBytes s p → refused n k ≡ readItems (moreItems (additionalOf (drop at s))) s at
+selection-four-not s at l p n k h z x e =
+    sym (selection-is s at l p h z x ∙ ap (λ (a : Answer (List (List ℕ))). andThen a (λ vs. got (take l (drop at s) ∷ vs))) (four-not s p n k e))
 
-pub chosen-label-not : (s : List ℕ) (at n k : ℕ) → at < length s → (getD s at 0 ≡ 0 → ⊥) → readItem label (drop at s) ≡ refused n k
-    → refused n k ≡ readItems (moreItems (kindOf (drop at s))) s at
-chosen-label-not s at n k h z x = rw (kind-chosen s at h z, label-text 51 s at h z, x)
+pub selection-label-not : (s : List ℕ) (at n k : ℕ) → at < length s → (getD s at 0 ≡ 0 → ⊥) → readItem textItem (drop at s) ≡ refused n k
+    → refused n k ≡ readItems (moreItems (additionalOf (drop at s))) s at
+selection-label-not s at n k h z x = rw (kind-selection s at h z, label-text 51 s at h z, x)
 
 -- ---- the places after the parts
 pub span-length : (s : List ℕ) (x : Span) → SpanIn s x → length (spanned s x) ≡ x .len
@@ -253,7 +253,7 @@ abbrev HeadGot : List ℕ → ℕ → Head → Type 0
 HeadGot s at h = (got (headAt s h) ≡ readItems headItems s at) × HeadIn s at h
 
 abbrev MoreGot : List ℕ → ℕ → More → Type 0
-MoreGot s at m = (got (moreBy (m .kind) s m) ≡ readItems (moreItems (kindOf (drop at s))) s at) × MoreIn s at m
+MoreGot s at m = (got (moreBy (m .kind) s m) ≡ readItems (moreItems (additionalOf (drop at s))) s at) × MoreIn s at m
 
 abbrev ValuesGot : List ℕ → ℕ → Values → Type 0
 ValuesGot s at v = (got (valuesBy (v .present) s v) ≡ readItems (valuesItems (remains (drop at s))) s at) × ValuesIn s at v
@@ -266,11 +266,11 @@ pub head-refused : (s : List ℕ) (at : ℕ) (k : Refusal) (r : HeadRead) → r 
 head-refused s at k r e f = rw e at f
 
 pub more-from : (s : List ℕ) (at : ℕ) (m : More) (r : MoreRead) → r ≡ GotMore m
-    → (toldMore s r ≡ readItems (moreItems (kindOf (drop at s))) s at) × moreIn s at r → MoreGot s at m
+    → (toldMore s r ≡ readItems (moreItems (additionalOf (drop at s))) s at) × moreIn s at r → MoreGot s at m
 more-from s at m r e f = (rw e at (f .0), rw e at (f .1))
 
-pub more-refused : (s : List ℕ) (at : ℕ) (k : Refusal) (r : MoreRead) → r ≡ RefusedMore k → toldMore s r ≡ readItems (moreItems (kindOf (drop at s))) s at
-    → refused (refusalNumber k) 0 ≡ readItems (moreItems (kindOf (drop at s))) s at
+pub more-refused : (s : List ℕ) (at : ℕ) (k : Refusal) (r : MoreRead) → r ≡ RefusedMore k → toldMore s r ≡ readItems (moreItems (additionalOf (drop at s))) s at
+    → refused (refusalNumber k) 0 ≡ readItems (moreItems (additionalOf (drop at s))) s at
 more-refused s at k r e f = rw e at f
 
 pub values-from : (s : List ℕ) (at : ℕ) (v : Values) (r : ValuesRead) → r ≡ GotValues v
@@ -283,10 +283,10 @@ values-refused s at k r e f = rw e at f
 
 -- the popup from its parts
 from-head : (s : List ℕ) (at b : ℕ) (h : List (List ℕ)) → got h ≡ readItems headItems s at → endOf headItems h at ≡ b
-    → readPopup s at ≡ readMore s (kindOf (drop b s)) h b
+    → readPopup s at ≡ readMore s (additionalOf (drop b s)) h b
 from-head s at b h e f =
-    ap (λ (a : Answer (List (List ℕ))). andThen a (λ h. readMore s (kindOf (drop (endOf headItems h at) s)) h (endOf headItems h at))) (sym e)
-    ∙ ap (λ (x : ℕ). readMore s (kindOf (drop x s)) h x) f
+    ap (λ (a : Answer (List (List ℕ))). andThen a (λ h. readMore s (additionalOf (drop (endOf headItems h at) s)) h (endOf headItems h at))) (sym e)
+    ∙ ap (λ (x : ℕ). readMore s (additionalOf (drop x s)) h x) f
 
 from-more : (s : List ℕ) (k j : ScreenAdditionalData) (h m : List (List ℕ)) (b e : ℕ) → k ≡ j → got m ≡ readItems (moreItems j) s b → endOf (moreItems k) m b ≡ e
     → readMore s j h b ≡ readRest s k h m e
@@ -302,7 +302,7 @@ more-at : (s : List ℕ) (at : ℕ) (h : Head) (m : More) → HeadGot s at h →
     → readPopup s at ≡ readRest s (m .kind) (headAt s h) (moreBy (m .kind) s m) (m .next)
 more-at s at h m x y =
     from-head s at (h .next) (headAt s h) (x .0) (head-end s at h (x .1))
-    ∙ from-more s (m .kind) (kindOf (drop (h .next) s)) (headAt s h) (moreBy (m .kind) s m) (h .next) (m .next) (y .1 .0) (y .0)
+    ∙ from-more s (m .kind) (additionalOf (drop (h .next) s)) (headAt s h) (moreBy (m .kind) s m) (h .next) (m .next) (y .1 .0) (y .0)
     (more-end s (h .next) m (m .kind) (y .1 .1 .0) (y .1 .1 .1 .0) (y .1 .1 .1 .1 .0))
 
 abbrev pub placesOf : Head → More → Values → Places
@@ -320,12 +320,12 @@ pub places-values-not : (s : List ℕ) (at : ℕ) (h : Head) (m : More) (n k : �
 places-values-not s at h m n k x y z = sym (more-at s at h m x y ∙ rw (← z))
 
 pub places-more-not : (s : List ℕ) (at : ℕ) (h : Head) (n k : ℕ) → HeadGot s at h
-    → refused n k ≡ readItems (moreItems (kindOf (drop (h .next) s))) s (h .next) → refused n k ≡ readPopup s at
+    → refused n k ≡ readItems (moreItems (additionalOf (drop (h .next) s))) s (h .next) → refused n k ≡ readPopup s at
 places-more-not s at h n k x y = sym (from-head s at (h .next) (headAt s h) (x .0) (head-end s at h (x .1)) ∙ rw (← y))
 
 pub places-head-not : (s : List ℕ) (at n k : ℕ) → refused n k ≡ readItems headItems s at → refused n k ≡ readPopup s at
 places-head-not s at n k x =
-    ap (λ (a : Answer (List (List ℕ))). andThen a (λ h. readMore s (kindOf (drop (endOf headItems h at) s)) h (endOf headItems h at))) x
+    ap (λ (a : Answer (List (List ℕ))). andThen a (λ h. readMore s (additionalOf (drop (endOf headItems h at) s)) h (endOf headItems h at))) x
 
 -- what was parsed reaches to the place after the last item
 rest-end : (s : List ℕ) (b : ℕ) (k : ScreenAdditionalData) (p : Bool) (m : More) (v : Values) →

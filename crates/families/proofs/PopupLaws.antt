@@ -20,7 +20,7 @@ use Rattle.codec.proofs.There.{and-got, items-there}
 use Rattle.codec.proofs.Joins.{end-is, ok-join, ok-split, write-join}
 use Rattle.families.specs.declared.screen.ScreenAdditionalData.{ScreenAdditionalData}
 use Rattle.families.specs.declared.screen.ScreenAdditionalData.the-variants.{Absent, Empty, Selection}
-use Rattle.families.specs.Popup.{headItems, chosenItems, moreItems, valuesItems, popupItems, Popup, popup, alone, kindOf, remains, readRest, readMore, readPopup, okPopup, writePopup}
+use Rattle.families.specs.Popup.{headItems, selectionItems, moreItems, valuesItems, popupItems, Popup, popup, alone, additionalOf, remains, readRest, readMore, readPopup, okPopup, writePopup}
 
 sound-more : (k : ScreenAdditionalData) → (soundItems (moreItems k) ≡ true) × (exactItems (moreItems k) ≡ true)
 sound-more Absent = (refl, refl)
@@ -32,14 +32,14 @@ sound-values true = (refl, refl)
 sound-values false = (refl, refl)
 
 -- the first byte of additional data shows its kind
-label-kind : (l r : List ℕ) → okItem (text 1 51) l ≡ true → kindOf (itemBytes (text 1 51) l ++ r) ≡ Selection
+label-kind : (l r : List ℕ) → okItem (text 1 51) l ≡ true → additionalOf (itemBytes (text 1 51) l ++ r) ≡ Selection
 label-kind [] r h = let z : _≡_ {A = ℕ} 0 1 = cc in absurd (omega arith)
 label-kind (b ∷ l) r h =
     let t = both (leb (length (b ∷ l)) 51) (nonzero (b ∷ l)) h in
     let p = passed (eqb b 0) (nonzero l) (t .1) in
     rw (p .0)
 
-empty-kind : (l r : List ℕ) → okItem (text 0 0) l ≡ true → kindOf (itemBytes (text 0 0) l ++ r) ≡ Empty
+empty-kind : (l r : List ℕ) → okItem (text 0 0) l ≡ true → additionalOf (itemBytes (text 0 0) l ++ r) ≡ Empty
 empty-kind [] r h = refl
 empty-kind (b ∷ l) r h = let o = both (leb (length (b ∷ l)) 0) (nonzero (b ∷ l)) h in absurd (omega (arith, leb-true (length (b ∷ l)) 0 (o .0)))
 
@@ -49,12 +49,12 @@ remains-back true ([] ∷ vs) h = refl
 remains-back true ((b ∷ v) ∷ vs) h = refl
 remains-back false v h = refl
 
-none-back : (p : Bool) (v : List (List ℕ)) → p ≡ false → kindOf (writeItems (valuesItems p) v) ≡ Absent
+none-back : (p : Bool) (v : List (List ℕ)) → p ≡ false → additionalOf (writeItems (valuesItems p) v) ≡ Absent
 none-back true v h = let z : _≡_ {A = ℕ} 0 1 = cc in absurd (omega arith)
 none-back false v h = refl
 
 kind-back : (k : ScreenAdditionalData) (p : Bool) (m v : List (List ℕ)) → okItems (moreItems k) m ≡ true → okItems (valuesItems p) v ≡ true → alone k p ≡ false
-    → kindOf (writeItems (moreItems k) m ++ writeItems (valuesItems p) v) ≡ k
+    → additionalOf (writeItems (moreItems k) m ++ writeItems (valuesItems p) v) ≡ k
 kind-back Absent p m v g h a = none-back p v a
 kind-back Empty p [] v g h a = let z : _≡_ {A = ℕ} 0 1 = cc in absurd (omega arith)
 kind-back Empty p (l ∷ m) v g h a =
@@ -62,8 +62,8 @@ kind-back Empty p (l ∷ m) v g h a =
     rw (append-nil (itemBytes (text 0 0) l)) (empty-kind l (writeItems (valuesItems p) v) (o .0))
 kind-back Selection p [] v g h a = let z : _≡_ {A = ℕ} 0 1 = cc in absurd (omega arith)
 kind-back Selection p (l ∷ m) v g h a =
-    let o = both (okItem (text 1 51) l) (okItems chosenItems m) g in
-    rw (append-assoc (itemBytes (text 1 51) l) (writeItems chosenItems m) (writeItems (valuesItems p) v)) (label-kind l (writeItems chosenItems m ++ writeItems (valuesItems p) v) (o .0))
+    let o = both (okItem (text 1 51) l) (okItems selectionItems m) g in
+    rw (append-assoc (itemBytes (text 1 51) l) (writeItems selectionItems m) (writeItems (valuesItems p) v)) (label-kind l (writeItems selectionItems m ++ writeItems (valuesItems p) v) (o .0))
 
 -- what is written reads back
 groups-back : (pre : List ℕ) (k : ScreenAdditionalData) (p : Bool) (h m v : List (List ℕ)) → okItems headItems h ≡ true → okItems (moreItems k) m ≡ true
@@ -117,11 +117,11 @@ popup-back pre k p vs o =
     back-by pre k p vs (x .0) (x .1 .0) (x .1 .1 .0) (x .1 .1 .1 .0) (x .1 .1 .1 .1 .0) (x .1 .1 .1 .1 .1 .0) (x .1 .1 .1 .1 .1 .1) (t .0)
 
 -- what is read is what would be written, and in range
-alone-none : (s : List ℕ) (at e : ℕ) → (kindOf (drop at s) ≡ Absent → e ≡ at) → alone (kindOf (drop at s)) (remains (drop e s)) ≡ false
-alone-none s at e h = by (drop at s) refl (kindOf (drop at s)) refl
+alone-none : (s : List ℕ) (at e : ℕ) → (additionalOf (drop at s) ≡ Absent → e ≡ at) → alone (additionalOf (drop at s)) (remains (drop e s)) ≡ false
+alone-none s at e h = by (drop at s) refl (additionalOf (drop at s)) refl
   where
-    by : (r : List ℕ) → drop at s ≡ r → (k : ScreenAdditionalData) → kindOf r ≡ k → alone k (remains (drop e s)) ≡ false
-    by [] p Absent q = let z = h (ap kindOf p ∙ q) in rw (z, p)
+    by : (r : List ℕ) → drop at s ≡ r → (k : ScreenAdditionalData) → additionalOf r ≡ k → alone k (remains (drop e s)) ≡ false
+    by [] p Absent q = let z = h (ap additionalOf p ∙ q) in rw (z, p)
     by (b ∷ r) p Absent q = first (eqb b 0) q
       where
         first : (t : Bool) → pick t Empty Selection ≡ Absent → remains (drop e s) ≡ false
@@ -176,10 +176,10 @@ got-back x y h = cc
 pub popup-forth : (s : List ℕ) (at : ℕ) (q : Popup) → Bytes s → at ≤ length s → readPopup s at ≡ got q
     → (okPopup q ≡ true) × ((at + length (writePopup q) ≤ length s) × (take (length (writePopup q)) (drop at s) ≡ writePopup q))
 popup-forth s at q y l r =
-    let x = and-got (readItems headItems s at) (λ h. readMore s (kindOf (drop (endOf headItems h at) s)) h (endOf headItems h at)) q r in
+    let x = and-got (readItems headItems s at) (λ h. readMore s (additionalOf (drop (endOf headItems h at) s)) h (endOf headItems h at)) q r in
     let h = x .0 in
     let b = endOf headItems h at in
-    let k = kindOf (drop b s) in
+    let k = additionalOf (drop b s) in
     let fh = items-there headItems s at h l (x .1 .0) in
     let gh = items-forth headItems s at h refl y (x .1 .0) in
     let eb = end-is headItems h at in

@@ -1,5 +1,5 @@
 -- A popup's parts put one behind the other. Assumes nothing.
-use Prim.Native.Nat.{ℕ, suc, _+_, _*_, _/_, _%_, _<_, _≤_}
+use Prim.Native.Nat.{ℕ, suc, _+_, _<_, _≤_}
 use mathlib.Core.Bool.{Bool, true, false}
 use mathlib.Core.List.{List, [], _∷_, _++_, append-nil}
 use mathlib.Core.Path.{_≡_, refl, ap, sym, _∙_}
@@ -8,11 +8,12 @@ use native.Mathlib.Nat.{zero-add}
 use lib.ListN.{length, set, replicate, length-append, length-set}
 use lib.Seq.{sets, sets-eq, length-take-le}
 use Rattle.codec.specs.Pick.{pick}
-use Rattle.codec.specs.Sheet.{Answer, got, refused}
+use Rattle.codec.specs.Sheet.{Answer, got, refused, first}
 use Rattle.codec.specs.Writing.{writeItems, putAt}
 use Rattle.codec.specs.Refusals.{refusalNumber, numberIn, valueIn}
 use Rattle.codec.specs.declared.refusal.Refusal.{Refusal}
 use Rattle.codec.specs.Told.{bit}
+use Rattle.codec.proofs.Packed.{byte-item}
 use Rattle.codec.proofs.Loops.{sets-append}
 use Rattle.codec.proofs.Writes.{put-fits, refusal-some}
 use Rattle.families.specs.declared.text.CommandString.{CommandString}
@@ -26,7 +27,7 @@ use Rattle.families.specs.Fields.{headSays, moreSays, valuesSays, popupS
 use Rattle.families.specs.Sizes.{Sized, Ranged, moreSize}
 use Rattle.families.proofs.Stored.{drop-zeros}
 use Rattle.families.proofs.Made.{construct-by, says-fit}
-use Rattle.families.proofs.Judged.{head-short, chosen-short, values-short, accepted, label-there, head-ok, more-ok, parts-write, parts-size}
+use Rattle.families.proofs.Judged.{head-short, selection-short, values-short, accepted, label-there, head-ok, more-ok, parts-write, parts-size}
 
 pub behind : (s s' s'' a b : List ℕ) (at n : ℕ) → s' ≡ sets s at a → n ≡ at + length a → s'' ≡ sets s' n b → s'' ≡ sets s at (a ++ b)
 behind s s' s'' a b at n e l f = rw (sets-append a b s at, ← l, ← e) f
@@ -49,14 +50,11 @@ text-put s s' t at l h m e =
 pub set-in : (s : List ℕ) (i v n : ℕ) → n < length s → n < length (set s i v)
 set-in s i v n h = rw (length-set s i v) h
 
-byte-value : (t : ℕ) → t < 256 → (t * 1 + 0) / 1 % 256 ≡ t
-byte-value t h = omega arith
-
 -- the head
 head-bytes : (h i : List ℕ) (t : ℕ) (c : Bool) → t < 256
     → writeItems headItems (h ∷ i ∷ (t ∷ []) ∷ (bit c ∷ []) ∷ []) ≡ (h ++ 0 ∷ []) ++ ((i ++ 0 ∷ []) ++ t ∷ bit c ∷ [])
-head-bytes h i t true l = rw (byte-value t l)
-head-bytes h i t false l = rw (byte-value t l)
+head-bytes h i t true l = rw (ap first (byte-item t l))
+head-bytes h i t false l = rw (ap first (byte-item t l))
 
 pub head-put : (s s1 s2 : List ℕ) (h i : CommandString) (t a b x : ℕ) (c : Bool) → (length (h .bytes) ≡ 51) × (length (i .bytes) ≡ 51)
     → (h .len ≤ 51) × (i .len ≤ 51) → t < 256 → x ≡ bit c → s1 ≡ sets s 0 (bytesIn h ++ 0 ∷ []) → a ≡ 0 + (h .len + 1)
@@ -71,30 +69,30 @@ head-put s s1 s2 h i t a b x c z m l e f1 g1 f2 g2 =
     (behind s1 s2 (set (set s2 b t) (suc b) (bit c)) (bytesIn i ++ 0 ∷ []) (t ∷ bit c ∷ []) a b f2 (rw w2 g2) refl))
 
 -- a selection
-chosen-bytes : (f : ScreenPopupFields) → Ranged f
+selection-bytes : (f : ScreenPopupFields) → Ranged f
     → writeItems (moreItems Selection) (moreSays Selection f)
     ≡ (bytesIn (f .«selection_text») ++ 0 ∷ []) ++ ((f .value ∷ f .«min_value» ∷ f .«max_value» ∷ f .«default_value» ∷ []) ++ (bytesIn (f .unit) ++ 0 ∷ []))
-chosen-bytes f r =
+selection-bytes f r =
     rw (
-      byte-value (f .value) (r .1 .0),
-      byte-value (f .«min_value») (r .1 .1 .0),
-      byte-value (f .«max_value») (r .1 .1 .1 .0),
-      byte-value (f .«default_value») (r .1 .1 .1 .1),
+      ap first (byte-item (f .value) (r .1 .0)),
+      ap first (byte-item (f .«min_value») (r .1 .1 .0)),
+      ap first (byte-item (f .«max_value») (r .1 .1 .1 .0)),
+      ap first (byte-item (f .«default_value») (r .1 .1 .1 .1)),
       append-nil (bytesIn (f .unit) ++ 0 ∷ []),
     )
 
-pub chosen-put : (f : ScreenPopupFields) → Sized f → Ranged f → (f .«selection_text» .len ≤ 51) × (f .unit .len ≤ 51) → (s s1 s3 : List ℕ) (at a : ℕ)
+pub selection-put : (f : ScreenPopupFields) → Sized f → Ranged f → (f .«selection_text» .len ≤ 51) × (f .unit .len ≤ 51) → (s s1 s3 : List ℕ) (at a : ℕ)
     → s1 ≡ sets s at (bytesIn (f .«selection_text») ++ 0 ∷ []) → a ≡ at + (f .«selection_text» .len + 1)
     → s3 ≡ sets (set (set (set (set s1 a (f .value)) (a + 1) (f .«min_value»)) (a + 2) (f .«max_value»)) (a + 3) (f .«default_value»)) (a + 4) (bytesIn (f .unit) ++ 0 ∷ [])
     → s3 ≡ sets s at (writeItems (moreItems Selection) (moreSays Selection f))
-chosen-put f z r m s s1 s3 at a f1 g1 f3 =
+selection-put f z r m s s1 s3 at a f1 g1 f3 =
     let n1 : a + 1 ≡ suc a = omega arith in
     let n2 : a + 2 ≡ suc (suc a) = omega arith in
     let n3 : a + 3 ≡ suc (suc (suc a)) = omega arith in
     let ns = f .value ∷ f .«min_value» ∷ f .«max_value» ∷ f .«default_value» ∷ [] in
     let w1 = ended-len (f .«selection_text») (z .1 .1 .0) (m .0) in
     let g : s3 ≡ sets (sets s1 a ns) (a + 4) (bytesIn (f .unit) ++ 0 ∷ []) = rw (n1, n2, n3) at f3 in
-    rw (chosen-bytes f r)
+    rw (selection-bytes f r)
     (behind s s1 s3 (bytesIn (f .«selection_text») ++ 0 ∷ []) (ns ++ (bytesIn (f .unit) ++ 0 ∷ [])) at a f1 (rw w1 g1)
     (behind s1 (sets s1 a ns) s3 ns (bytesIn (f .unit) ++ 0 ∷ []) a (a + 4) refl refl g))
 
@@ -149,7 +147,7 @@ module _ (f : ScreenPopupFields) (z : Sized f) (r : Ranged f) (h : numberIn (con
 
   pub more-room : (a n : ℕ) → a ≡ f .header .len + f .info .len + 4 → n ≡ 55
       → (f .«additional_data» ≡ Selection → (f .«selection_text» .len ≤ 51) × (f .unit .len ≤ 51)) × (a + moreSize (f .«additional_data») f ≤ n)
-  more-room a n g e = (chosen-short f (accepted f h .0), omega (arith, in-all))
+  more-room a n g e = (selection-short f (accepted f h .0), omega (arith, in-all))
 
   pub values-room : (a b n : ℕ) → a ≡ f .header .len + f .info .len + 4 → b ≡ a + moreSize (f .«additional_data») f → n ≡ 55
       → (f .«has_possible_values» ≡ true → f .«possible_values» .len ≤ 51) × (b + pick (f .«has_possible_values») (f .«possible_values» .len + 1) 0 ≤ n)

@@ -1,14 +1,14 @@
 -- What writing lets through reads back, whatever bytes follow: of each family the one law over all sheets. Assumes nothing.
 use Prim.Native.Nat.{ℕ}
 use mathlib.Core.Bool.{true}
-use mathlib.Core.List.{List, [], _∷_, _++_, map}
+use mathlib.Core.List.{List, _++_}
 use mathlib.Core.Path.{_≡_, refl}
 use Rattle.codec.specs.Sheet.{Row, Said, got}
 use Rattle.codec.specs.Reading.{readBody}
 use Rattle.codec.specs.Writing.{writeBody, stopInOrder, stopValuesFirst}
 use Rattle.codec.specs.Sound.{soundRows, known}
 use Rattle.codec.proofs.Stops.{back-in-order, back-values-first}
-use Rattle.families.specs.Sheets.{fcRows, osdRows, vtxRows, ledRows, generalRows, crossfireRows, flowRows, screenRows}
+use Rattle.families.specs.Sheets.{fcRows, osdRows, vtxRows, ledRows, generalRows, crossfireRows, flowRows}
 use Rattle.families.specs.Fc.{fcSays}
 use Rattle.families.specs.Osd.{osdSays}
 use Rattle.families.specs.Vtx.{vtxSays}
@@ -29,11 +29,6 @@ use Rattle.families.specs.declared.crossfire.CrossfireCommand.{Crossfire
 use Rattle.families.specs.declared.crossfire.CrossfireCommand.the-variants.{SetReceiverInBindMode, CancelBindMode, SetBindId, ModelSelection, CurrentModelSelection, ReplyCurrentModelSelection, EnableRxTelemetry, DisableRxTelemetry, FactoryReset, ResetToFactoryFirmware}
 use Rattle.families.specs.declared.flow_control.FlowControlCommand.{FlowControlCommand}
 use Rattle.families.specs.declared.flow_control.FlowControlCommand.the-variants.{Subscribe, Unsubscribe}
-
--- every sheet is sound
-pub all-sound : map soundRows (fcRows ∷ osdRows ∷ vtxRows ∷ ledRows ∷ generalRows ∷ crossfireRows ∷ flowRows ∷ screenRows ∷ [])
-    ≡ true ∷ true ∷ true ∷ true ∷ true ∷ true ∷ true ∷ true ∷ []
-all-sound = refl
 
 -- what a command says is on its sheet
 pub fc-known : (c : FcCommand) → known fcRows (fcSays c) ≡ true

@@ -1,12 +1,12 @@
 -- Screen commands read back, and a popup that was read from data is made. Assumes nothing.
-use Prim.Native.Nat.{ℕ, _+_, _-_, _<_, _≤_}
+use Prim.Native.Nat.{ℕ, _<_, _≤_}
 use mathlib.Core.Bool.{Bool, true, false}
 use mathlib.Core.List.{List, [], _∷_, _++_}
 use mathlib.Core.Path.{_≡_, refl, ap, _∙_}
 use native.Mathlib.Omega.{arith}
 use lib.ListN.{length, drop}
 use lib.Dec.{leb, eqb}
-use borrow.Author.Tests.{le-leb, leb-true}
+use borrow.Author.Tests.{le-leb, leb-true, eqb-true}
 use Rattle.crc.specs.Check.{Bytes}
 use Rattle.codec.specs.Pick.{pick}
 use Rattle.codec.specs.Sheet.{Answer, got, refused, andThen, Said, said, byte, flag, field, first}
@@ -19,7 +19,7 @@ use Rattle.codec.proofs.Bounds.{packed-there}
 use Rattle.families.specs.Sheets.{screenRows}
 use Rattle.families.specs.Popup.{Popup, popup, readPopup, okPopup, writePopup, fitted}
 use Rattle.families.specs.Fields.{madePopup}
-use Rattle.families.specs.Screen.{started, returned, readScreen, screenOf, storedOf, screenBody}
+use Rattle.families.specs.Screen.{ScreenSaid, started, returned, readScreen, screenOf, storedOf, screenBody}
 use Rattle.families.specs.declared.screen.ScreenAdditionalData.{ScreenAdditionalData}
 use Rattle.families.specs.declared.screen.ScreenCommand.the-variants.{PopupMessageStart, SelectionReturnValue}
 use Rattle.families.proofs.Ok.{byte-flag}
@@ -97,3 +97,31 @@ read-made s k p vs y h =
     let x = started-is s (popup k p vs) h in
     let f = popup-forth s 1 (popup k p vs) y (x .0) (x .1 .0) in
     rw (inspect-of k p vs (f .0) (x .1 .1))
+
+-- what was read, by its sub-command
+abbrev pub Way : List ℕ → ℕ → ScreenSaid → Type 0
+Way s sub (started q) = sub ≡ 0x01
+Way s sub (returned b) = readRow screenRows s sub ≡ got b
+
+way-of : (s : List ℕ) (sub : ℕ) (q : ScreenSaid) (t : Bool) → eqb sub 0x01 ≡ t
+    → pick t (andThen (readPopup s 1) (λ r. andThen (fitted r) (λ p. got (started p)))) (andThen (readRow screenRows s sub) (λ d. got (returned d))) ≡ got q → Way s sub q
+way-of s sub (started q) true e h = eqb-true sub 0x01 e
+way-of s sub (returned b) true e h =
+    let x = and-got (readPopup s 1) (λ r. andThen (fitted r) (λ p. got (started p))) (returned b) h in
+    let y = and-got (fitted (x .0)) (λ p. got (started p)) (returned b) (x .1 .1) in
+    let z : _≡_ {A = ℕ} 0 1 = cc in absurd (omega arith)
+way-of s sub (started q) false e h =
+    let x = and-got (readRow screenRows s sub) (λ d. got (returned d)) (started q) h in
+    let z : _≡_ {A = ℕ} 0 1 = cc in absurd (omega arith)
+way-of s sub (returned b) false e h =
+    let x = and-got (readRow screenRows s sub) (λ d. got (returned d)) (returned b) h in
+    let f : x .0 ≡ b = cc in
+    x .1 .0 ∙ ap (λ (d : Said). got d) f
+
+pub screen-way : (s : List ℕ) (q : ScreenSaid) → readScreen s ≡ got q → (v : List ℕ) × ((readItem byte (drop 0 s) ≡ got v) × Way s (first v) q)
+screen-way s q h =
+    let x = and-got (readItem byte (drop 0 s)) (λ v.
+    pick (eqb (first v) 0x01)
+    (andThen (readPopup s 1) (λ r. andThen (fitted r) (λ p. got (started p))))
+    (andThen (readRow screenRows s (first v)) (λ d. got (returned d)))) q h in
+    (x .0, (x .1 .0, way-of s (first (x .0)) q (eqb (first (x .0)) 0x01) refl (x .1 .1)))

@@ -1,5 +1,5 @@
 -- The text constructor way by way; what is made is what stands for some bytes. Assumes nothing.
-use Prim.Native.Nat.{ℕ, zero, suc, _+_, _-_, _<_, _≤_}
+use Prim.Native.Nat.{ℕ, zero, suc, _-_, _<_, _≤_}
 use mathlib.Core.Bool.{Bool, true, false}
 use mathlib.Core.List.{List, [], _∷_, _++_}
 use mathlib.Core.Path.{_≡_, refl, ap, sym, _∙_}
@@ -41,7 +41,7 @@ new-range v w = by (nonzero v) (leb (length v) 51) refl refl
     by false b p q h = let z : _≡_ {A = ℕ} 0 1 = cc in absurd (omega arith)
 
 -- ---- bytes and zeros are made
-zeros-replicate : (n : ℕ) → zeros (replicate n 0) ≡ true
+pub zeros-replicate : (n : ℕ) → zeros (replicate n 0) ≡ true
 zeros-replicate zero = refl
 zeros-replicate (suc n) = zeros-replicate n
 
@@ -55,7 +55,7 @@ pub new-made : (v w : List ℕ) → newText v ≡ got w → madeText (textOf w) 
 new-made v w h = let r = new-range v w h in rw (← (r .0)) (made-padded 51 51 v (r .1 .0) (r .1 .1))
 
 -- ---- and what is made is bytes and zeros
-zeros-are : (s : List ℕ) → zeros s ≡ true → s ≡ replicate (length s) 0
+pub zeros-are : (s : List ℕ) → zeros s ≡ true → s ≡ replicate (length s) 0
 zeros-are [] h = refl
 zeros-are (b ∷ s) h =
     let p = both (eqb b 0) (zeros s) h in
@@ -76,13 +76,5 @@ made-stands most size n b h l m =
     (k, (q .0, (t, e ∙ ap (λ (x : List ℕ). take n b ++ x) z)))
 
 -- a made text is the text of its bytes
-pub made-text : (t : CommandString) → madeText t ≡ true → length (t .bytes) ≡ 51 → t ≡ textOf (bytesIn t)
-made-text t h l =
-    let s = made-stands 51 51 (t .len) (t .bytes) h l (omega arith) in
-    same (t .len) (t .bytes) (s .1 .1 .0) (s .1 .1 .1)
-  where
-    same : (n : ℕ) (b : List ℕ) → length (take n b) ≡ n → b ≡ padded 51 (take n b) → record { len = n; bytes = b } ≡ textOf (take n b)
-    same n b p q = fields n (length (take n b)) b (padded 51 (take n b)) (sym p) q
-      where
-        fields : (n m : ℕ) (b c : List ℕ) → n ≡ m → b ≡ c → _≡_ {A = CommandString} (record { len = n; bytes = b }) (record { len = m; bytes = c })
-        fields n m b c p q = rw (p, q)
+pub made-is : (t : CommandString) → length (t .bytes) ≡ 51 → madeText t ≡ true → textOf (bytesIn t) ≡ t
+made-is t l h = let s = made-stands 51 51 (t .len) (t .bytes) h l (omega arith) in rw (← (s .1 .1 .1), s .1 .1 .0)

@@ -83,11 +83,11 @@ PopupIs a r = (outcomeNumber (r .outcome) ≡ numberIn a) × (r .popup ≡ value
 abbrev pub MadePopup : ScreenPopup → Type 0
 MadePopup q = (f : ScreenPopupFields) × (construct f ≡ got q)
 
--- INSPECTION gives the fields, "absent" ones "blank"
-abbrev pub chosen : ScreenAdditionalData → List (List ℕ) → ℕ → List ℕ
-chosen Absent vs i = []
-chosen Empty vs i = []
-chosen Selection vs i = getD vs i []
+-- INSPECTION: "absent items aren't looked at, and inspection gives them blank"
+abbrev pub selection : ScreenAdditionalData → List (List ℕ) → ℕ → List ℕ
+selection Absent vs i = []
+selection Empty vs i = []
+selection Selection vs i = getD vs i []
 
 abbrev pub valuesAt : ScreenAdditionalData → ℕ
 valuesAt Absent = 4
@@ -101,12 +101,12 @@ fieldsOf (popup k p vs) = record {
   «max_timeout_interval» = first (getD vs 2 []);
   «close_button_option» = eqb (first (getD vs 3 [])) 1;
   «additional_data» = k;
-  «selection_text» = textOf (chosen k vs 4);
-  value = first (chosen k vs 5);
-  «min_value» = first (chosen k vs 6);
-  «max_value» = first (chosen k vs 7);
-  «default_value» = first (chosen k vs 8);
-  unit = textOf (chosen k vs 9);
+  «selection_text» = textOf (selection k vs 4);
+  value = first (selection k vs 5);
+  «min_value» = first (selection k vs 6);
+  «max_value» = first (selection k vs 7);
+  «default_value» = first (selection k vs 8);
+  unit = textOf (selection k vs 9);
   «has_possible_values» = p;
   «possible_values» = textOf (getD vs (valuesAt k) []);
 }
@@ -136,26 +136,3 @@ isGot (refused n p) = false
 
 abbrev pub madePopup : ScreenPopup → Bool
 madePopup q = isGot (inspect q)
-
--- fields with absent items blank
-abbrev pub ifChosen : {A : Type 0} → ScreenAdditionalData → A → A → A
-ifChosen Absent a b = b
-ifChosen Empty a b = b
-ifChosen Selection a b = a
-
-abbrev pub blanked : ScreenPopupFields → ScreenPopupFields
-blanked f = record {
-  header = f .header;
-  info = f .info;
-  «max_timeout_interval» = f .«max_timeout_interval»;
-  «close_button_option» = f .«close_button_option»;
-  «additional_data» = f .«additional_data»;
-  «selection_text» = ifChosen (f .«additional_data») (f .«selection_text») (textOf []);
-  value = ifChosen (f .«additional_data») (f .value) 0;
-  «min_value» = ifChosen (f .«additional_data») (f .«min_value») 0;
-  «max_value» = ifChosen (f .«additional_data») (f .«max_value») 0;
-  «default_value» = ifChosen (f .«additional_data») (f .«default_value») 0;
-  unit = ifChosen (f .«additional_data») (f .unit) (textOf []);
-  «has_possible_values» = f .«has_possible_values»;
-  «possible_values» = pick (f .«has_possible_values») (f .«possible_values») (textOf []);
-}

@@ -10,7 +10,7 @@ use Rattle.codec.specs.Pick.{pick}
 use Rattle.codec.specs.Sheet.{Answer, got, refused}
 use Rattle.codec.specs.Refusals.{refusalNumber, outcomeNumber}
 use Rattle.codec.specs.Told.{bit}
-use Rattle.families.specs.Popup.{Popup, popup, kindOf, remains}
+use Rattle.families.specs.Popup.{Popup, popup, additionalOf, remains}
 use Rattle.families.specs.Fields.{popupOf}
 use Rattle.families.specs.declared.screen.ScreenAdditionalData.{ScreenAdditionalData}
 use Rattle.families.specs.declared.screen.ScreenAdditionalData.the-variants.{Absent, Empty, Selection}
@@ -63,7 +63,7 @@ headIn s at (RefusedHead r) = Unit {0}
 
 -- ADDITIONAL DATA
 abbrev pub fourAt : Four → List (List ℕ)
-fourAt f = (f .value ∷ []) ∷ (f .least ∷ []) ∷ (f .greatest ∷ []) ∷ (f .preset ∷ []) ∷ []
+fourAt f = (f .value ∷ []) ∷ (f .«min_value» ∷ []) ∷ (f .«max_value» ∷ []) ∷ (f .«default_value» ∷ []) ∷ []
 
 abbrev pub toldFour : FourRead → Answer (List (List ℕ))
 toldFour (GotFour f) = got (fourAt f)
@@ -84,7 +84,7 @@ toldMore s (RefusedMore r) = refused (refusalNumber r) 0
 
 -- no selection: nothing of it stands anywhere
 abbrev pub noMore : ScreenAdditionalData → ℕ → More
-noMore k n = record { kind = k; label = none; four = record { value = 0; least = 0; greatest = 0; preset = 0 }; unit = none; next = n }
+noMore k n = record { kind = k; label = none; four = record { value = 0; «min_value» = 0; «max_value» = 0; «default_value» = 0 }; unit = none; next = n }
 
 abbrev pub MoreIs : ScreenAdditionalData → ℕ → More → Type 0
 MoreIs Absent at m = m ≡ noMore Absent at
@@ -94,7 +94,7 @@ MoreIs Selection at m =
 
 abbrev pub MoreIn : List ℕ → ℕ → More → Type 0
 MoreIn s at m =
-    (m .kind ≡ kindOf (drop at s))
+    (m .kind ≡ additionalOf (drop at s))
     × (MoreIs (m .kind) at m × (SpanIn s (m .label) × (SpanIn s (m .unit) × (m .next ≤ length s))))
 
 abbrev pub moreIn : List ℕ → ℕ → MoreRead → Type 0

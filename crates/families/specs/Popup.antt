@@ -10,23 +10,23 @@ use Rattle.codec.specs.Pick.{pick}
 use Rattle.codec.specs.Sheet.{Answer, got, refused, andThen, Item, text, byte, flag}
 use Rattle.codec.specs.Reading.{readItems, endOf}
 use Rattle.codec.specs.Writing.{writeItems, okItems}
-use Rattle.families.specs.Sheets.{label}
+use Rattle.families.specs.Sheets.{textItem}
 use Rattle.families.specs.declared.screen.ScreenAdditionalData.{ScreenAdditionalData}
 use Rattle.families.specs.declared.screen.ScreenAdditionalData.the-variants.{Absent, Empty, Selection}
 
 abbrev pub headItems : List Item
-headItems = label ∷ label ∷ byte ∷ flag ∷ []
+headItems = textItem ∷ textItem ∷ byte ∷ flag ∷ []
 
-abbrev pub chosenItems : List Item
-chosenItems = byte ∷ byte ∷ byte ∷ byte ∷ label ∷ []
+abbrev pub selectionItems : List Item
+selectionItems = byte ∷ byte ∷ byte ∷ byte ∷ textItem ∷ []
 
 abbrev pub moreItems : ScreenAdditionalData → List Item
 moreItems Absent = []
 moreItems Empty = text 0 0 ∷ []
-moreItems Selection = text 1 51 ∷ chosenItems
+moreItems Selection = text 1 51 ∷ selectionItems
 
 abbrev pub valuesItems : Bool → List Item
-valuesItems true = label ∷ []
+valuesItems true = textItem ∷ []
 valuesItems false = []
 
 -- the items of a popup of this kind, with or without possible values
@@ -44,9 +44,9 @@ alone Empty p = false
 alone Selection p = false
 
 -- "On reading, additional data is present when bytes remain; so, after it, are possible values."
-abbrev pub kindOf : List ℕ → ScreenAdditionalData
-kindOf [] = Absent
-kindOf (b ∷ s) = pick (eqb b 0) Empty Selection
+abbrev pub additionalOf : List ℕ → ScreenAdditionalData
+additionalOf [] = Absent
+additionalOf (b ∷ s) = pick (eqb b 0) Empty Selection
 
 abbrev pub remains : List ℕ → Bool
 remains [] = false
@@ -61,7 +61,7 @@ readMore s k h b = andThen (readItems (moreItems k) s b) (λ m. readRest s k h m
 -- a popup from a place of the bytes on; "Bytes after the last item are ignored."
 abbrev pub readPopup : List ℕ → ℕ → Answer Popup
 readPopup s at =
-    andThen (readItems headItems s at) (λ h. readMore s (kindOf (drop (endOf headItems h at) s)) h (endOf headItems h at))
+    andThen (readItems headItems s at) (λ h. readMore s (additionalOf (drop (endOf headItems h at) s)) h (endOf headItems h at))
 
 abbrev pub okPopup : Popup → Bool
 okPopup (popup k p vs) = pick (alone k p) false (okItems (popupItems k p) vs)

@@ -5,7 +5,7 @@ use mathlib.Core.List.{List, [], _∷_}
 use lib.ListN.{drop, getD}
 use lib.Dec.{eqb}
 use Rattle.codec.specs.Pick.{pick}
-use Rattle.codec.specs.Sheet.{Answer, got, refused, andThen, Said, said, byte, first}
+use Rattle.codec.specs.Sheet.{Answer, got, andThen, Said, said, byte, first}
 use Rattle.codec.specs.Reading.{readItem, readRow}
 use Rattle.codec.specs.Writing.{writeBody}
 use Rattle.codec.specs.Told.{bit}

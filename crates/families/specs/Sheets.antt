@@ -60,9 +60,11 @@ abbrev pub flowRows : List Row
 flowRows = row 0x01 (byte ∷ word ∷ []) ∷ row 0x02 (byte ∷ []) ∷ []
 
 -- A text is up to 51 nonzero bytes, then 00.
-abbrev pub label : Item
-label = text 0 51
+abbrev pub textItem : Item
+textItem = text 0 51
 
 -- 0x22 Screen: 01 popup (its own sheet, Popup.antt); 02 value(1), response(flag).
 abbrev pub screenRows : List Row
 screenRows = row 0x02 (byte ∷ flag ∷ []) ∷ []
+
+-- 0xFF ACK has its own sheet, Ack.antt.

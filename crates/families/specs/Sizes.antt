@@ -31,10 +31,11 @@ moreSize Absent f = 0
 moreSize Empty f = 1
 moreSize Selection f = f .«selection_text» .len + f .unit .len + 6
 
--- the stop of a popup from the bytes of its head, the lengths of its label, its unit and its possible values
+-- 1 where so many bytes have no room
 abbrev pub over : ℕ → ℕ
 over n = pick (ltb 55 n) 1 0
 
+-- the stop of a popup from the bytes of its head, the lengths of its label, its unit and its possible values
 abbrev pub stopSizes : ℕ → ScreenAdditionalData → ℕ → ℕ → Bool → ℕ → ℕ
 stopSizes h Absent l u p v = pick p 2 (over h)
 stopSizes h Empty l u p v = over (h + 1 + pick p (v + 1) 0)

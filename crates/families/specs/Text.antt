@@ -12,11 +12,11 @@ use Rattle.codec.specs.Refusals.{outcomeNumber, numberIn, valueIn}
 use Rattle.families.specs.declared.text.CommandString.{CommandString}
 use Rattle.families.specs.declared.text.TextAnswer.{TextAnswer}
 
--- "Made means: stored lengths within limits, text and information bytes nonzero, .. unused places zero": n bytes of b, at most so many
 abbrev pub zeros : List ℕ → Bool
 zeros [] = true
 zeros (b ∷ s) = pick (eqb b 0) (zeros s) false
 
+-- "Made means: stored lengths within limits, text and information bytes nonzero, .. unused places zero": n bytes of b, at most so many
 abbrev pub madeBytes : ℕ → ℕ → List ℕ → Bool
 madeBytes most n b = pick (leb n most) (pick (nonzero (take n b)) (zeros (drop n b)) false) false
 

@@ -14,7 +14,7 @@ use codec::refusal::Refusal;
 use codec::writer::Written;
 
 // "information up to 52 bytes"
-const MOST: usize = 52;
+pub(crate) const MAX_ACK_INFORMATION_LEN: usize = 52;
 
 // The information stands beside it.
 pub struct CommandAck {
@@ -76,7 +76,7 @@ impl CommandAck {
     pub fn new(command_id: u8, sub_command_id: u8, action: u8, information: &[u8]) -> AckAnswer
         ensures { λ r. ⌜ AckIs (newAck (ackWith «command_id» «sub_command_id» action) (now (information .entry))) r ⌝ }
     {
-        if MOST < information.len() {
+        if MAX_ACK_INFORMATION_LEN < information.len() {
             return refused_with(Refusal::InvalidPayloadLength);
         }
         if 1 < action {
@@ -103,7 +103,7 @@ pub fn read(body: &[u8]) -> AckAnswer
     if body.len() < 3 {
         return refused_with(Refusal::InvalidPayloadLength);
     }
-    match codec::reader::read_text(body, 3, MOST) {
+    match codec::reader::read_text(body, 3, MAX_ACK_INFORMATION_LEN) {
         TextRead::Got { len, next } => {
             if 1 < body[2] {
                 return refused_with(Refusal::InvalidPayload);
@@ -154,5 +154,5 @@ pub fn write_to(ack: CommandAck, bytes: &[u8], len: usize, body: &mut [u8]) -> W
 pub fn made(bytes: &[u8], len: usize) -> bool
     ensures { λ r. ⌜ r ≡ madeInformation len (now (bytes .entry)) ⌝ }
 {
-    crate::text::made_bytes(bytes, len, MOST)
+    crate::text::made_bytes(bytes, len, MAX_ACK_INFORMATION_LEN)
 }

@@ -15,15 +15,13 @@ ghost use Rattle.families.specs.Text.{bytesIn};
 ghost use Rattle.families.specs.Popup.{headItems, moreItems, valuesItems, writePopup};
 ghost use Rattle.families.specs.Fields.{moreSays, valuesSays, popupSays, madeMore, madeValues, madeTexts, construct};
 ghost use Rattle.families.specs.Sizes.{over, stopSizes, moreSize};
+use crate::screen::MAX_POPUP_DATA_LEN;
 use crate::screen::ScreenAdditionalData;
 use crate::screen::ScreenPopup;
 use crate::screen::ScreenPopupFields;
 use crate::text::CommandString;
 use codec::refusal::Outcome;
 use codec::refusal::Refusal;
-
-// "Popup data is at most 55 bytes."
-const POPUP_ROOM: usize = 55;
 
 fn more_made(f: ScreenPopupFields) -> bool
     ensures { λ r. ⌜ r ≡ madeMore (f .«additional_data») f ⌝ }
@@ -69,11 +67,11 @@ fn texts_made(f: ScreenPopupFields) -> bool
     false
 }
 
-// The room for so many bytes.
+// 1 unless n bytes have room.
 fn room(n: usize) -> Outcome
     ensures { λ r. ⌜ outcomeNumber r ≡ over n ⌝ }
 {
-    if POPUP_ROOM < n {
+    if MAX_POPUP_DATA_LEN < n {
         Outcome::Refused(Refusal::InvalidPayloadLength)
     } else {
         Outcome::Accepted
@@ -88,12 +86,12 @@ fn values_size(p: bool, n: usize) -> usize
 }
 
 // A selection: its label stops at its turn, before its own room.
-fn judge_chosen(head: usize, l: usize, u: usize, rest: usize) -> Outcome
+fn judge_selection(head: usize, l: usize, u: usize, rest: usize) -> Outcome
     requires { ⌜ ((head ≤ 106) × (l ≤ 51)) × ((u ≤ 51) × (rest ≤ 52)) ⌝ }
     ensures { λ r. ⌜ outcomeNumber r ≡ pick (eqb l 0) (pick (ltb 55 head) 1 2) (over (head + (l + u + 6) + rest)) ⌝ }
 {
     if l == 0 {
-        if POPUP_ROOM < head {
+        if MAX_POPUP_DATA_LEN < head {
             return Outcome::Refused(Refusal::InvalidPayloadLength);
         }
         return Outcome::Refused(Refusal::InvalidPayload);
@@ -122,11 +120,11 @@ fn judge_sizes(
             room(head)
         }
         ScreenAdditionalData::Empty => room(head + 1 + rest),
-        ScreenAdditionalData::Selection => judge_chosen(head, l, u, rest),
+        ScreenAdditionalData::Selection => judge_selection(head, l, u, rest),
     }
 }
 
-// The number that stops construction.
+// What stops construction, if anything does.
 pub(crate) fn judge(f: ScreenPopupFields) -> Outcome
     ensures { λ r. ⌜ outcomeNumber r ≡ numberIn (construct f) ⌝ }
 {
@@ -170,7 +168,7 @@ fn put_head(s: &mut [u8], h: CommandString, i: CommandString, time: u8, close: b
     b + 2
 }
 
-fn put_chosen(s: &mut [u8], at: usize, f: ScreenPopupFields) -> usize
+fn put_selection(s: &mut [u8], at: usize, f: ScreenPopupFields) -> usize
     requires { ⌜ ((f .«selection_text» .len ≤ 51) × (f .unit .len ≤ 51)) × (at + (f .«selection_text» .len + f .unit .len + 6) ≤ length (now s)) ⌝ }
     ensures { λ r. ⌜ (now (s .exit) ≡ sets (now (s .entry)) at (writeItems (moreItems ScreenAdditionalData.Selection) (moreSays ScreenAdditionalData.Selection f))) × (r ≡ at + (f .«selection_text» .len + f .unit .len + 6)) ⌝ }
 {
@@ -195,7 +193,7 @@ fn put_more(s: &mut [u8], at: usize, f: ScreenPopupFields) -> usize
             s[at] = 0;
             at + 1
         }
-        ScreenAdditionalData::Selection => put_chosen(s, at, f),
+        ScreenAdditionalData::Selection => put_selection(s, at, f),
     }
 }
 

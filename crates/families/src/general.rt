@@ -5,11 +5,12 @@ ghost use lib.ListN.{length};
 ghost use Rattle.codec.specs.Reading.{readBody};
 ghost use Rattle.codec.specs.Sheet.{said};
 ghost use Rattle.codec.specs.Writing.{writeBody, stopInOrder};
-ghost use Rattle.codec.specs.Told.{Writes, bit};
+ghost use Rattle.codec.specs.Told.{Writes, bit, atMost};
 ghost use Rattle.families.specs.Sheets.{generalRows};
-ghost use Rattle.families.specs.General.{generalSays, toldGeneral};
+ghost use Rattle.families.specs.General.{generalSays, toldGeneral, GeneralBy};
 use codec::reader::FlagRead;
 use codec::reader::NumberRead;
+use codec::reader::Reader;
 use codec::reader::Width;
 use codec::refusal::Refusal;
 use codec::writer::Written;
@@ -24,15 +25,17 @@ pub enum GeneralRead {
     Refused(Refusal),
 }
 
-pub fn read(body: &[u8]) -> GeneralRead
-    ensures { λ r. ⌜ toldGeneral r ≡ readBody generalRows (now (body .entry)) ⌝ }
+// Behind the sub-command and the port.
+fn read_behind(sub: NumberRead, port: NumberRead, rest: &[u8]) -> GeneralRead
+    requires { ⌜ atMost 255 port ⌝ }
+    ensures { λ r. ⌜ GeneralBy sub port (now (rest .entry)) r ⌝ }
 {
-    match codec::reader::read_number(body, 0, Width::One, 0, 255) {
+    match sub {
         NumberRead::Got(sub) => match sub {
-            0x70 => match codec::reader::read_number(body, 1, Width::One, 0, 255) {
+            0x70 => match port {
                 NumberRead::Got(p) => match codec::reader::read_number(
-                    body,
-                    2,
+                    rest,
+                    0,
                     Width::Four,
                     0,
                     4294967295,
@@ -45,8 +48,8 @@ pub fn read(body: &[u8]) -> GeneralRead
                 },
                 NumberRead::Refused(r) => GeneralRead::Refused(r),
             },
-            0x71 => match codec::reader::read_number(body, 1, Width::One, 0, 255) {
-                NumberRead::Got(p) => match codec::reader::read_flag(body, 2) {
+            0x71 => match port {
+                NumberRead::Got(p) => match codec::reader::read_flag(rest, 0) {
                     FlagRead::Got(a) => GeneralRead::Got(GeneralCommand::SpeedProposalResponse {
                         port_id: p as u8,
                         accepted: a,
@@ -59,6 +62,15 @@ pub fn read(body: &[u8]) -> GeneralRead
         },
         NumberRead::Refused(r) => GeneralRead::Refused(r),
     }
+}
+
+pub fn read(body: &[u8]) -> GeneralRead
+    ensures { λ r. ⌜ toldGeneral r ≡ readBody generalRows (now (body .entry)) ⌝ }
+{
+    let mut input = Reader::new(body);
+    let sub = input.number(Width::One, 0, 255);
+    let port = input.number(Width::One, 0, 255);
+    read_behind(sub, port, input.remaining)
 }
 
 fn write_proposal(port: u8, baud: u32, body: &mut [u8]) -> Written

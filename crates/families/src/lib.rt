@@ -1,4 +1,4 @@
-// The command families, one module each.
+// The command families, a module each; texts, popups, and the enum over the families.
 pub mod ack;
 pub mod crossfire;
 pub mod fc;

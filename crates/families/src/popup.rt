@@ -1,13 +1,14 @@
-// One parse of a popup: it tells where the items stand, and serves reading, inspection, made and the edits.
+// One parse of a popup: it tells where the items stand, and serves reading, inspection and made.
 ghost use mathlib.Core.Path.{_≡_};
 ghost use mathlib.Core.List.{_∷_, []};
 ghost use Prim.Native.Nat.{_≤_, _<_};
 ghost use lib.ListN.{length, drop, getD};
 ghost use Rattle.codec.specs.Sheet.{byte};
 ghost use Rattle.codec.specs.Reading.{readItems};
-ghost use Rattle.families.specs.Popup.{headItems, moreItems, valuesItems, kindOf, remains, readPopup};
+ghost use Rattle.families.specs.Popup.{headItems, moreItems, valuesItems, additionalOf, remains, readPopup};
 ghost use Rattle.families.specs.Places.{noMore, toldHead, headIn, toldFour, fourIn, toldMore, moreIn, toldValues, valuesIn, toldPlaces, placesIn};
 use crate::screen::ScreenAdditionalData;
+use crate::text::MAX_COMMAND_STRING_LEN;
 use codec::reader::FlagRead;
 use codec::reader::NumberRead;
 use codec::reader::TextRead;
@@ -36,9 +37,9 @@ pub(crate) enum HeadRead {
 // A selection's value, min, max and default.
 pub(crate) struct Four {
     pub(crate) value: u8,
-    pub(crate) least: u8,
-    pub(crate) greatest: u8,
-    pub(crate) preset: u8,
+    pub(crate) min_value: u8,
+    pub(crate) max_value: u8,
+    pub(crate) default_value: u8,
 }
 
 pub(crate) enum FourRead {
@@ -85,8 +86,12 @@ pub(crate) enum PopupRead {
 fn read_head(s: &[u8], at: usize) -> HeadRead
     ensures { λ r. ⌜ (toldHead (now (s .entry)) r ≡ readItems headItems (now (s .entry)) at) × headIn (now (s .entry)) at r ⌝ }
 {
-    match codec::reader::read_text(s, at, 51) {
-        TextRead::Got { len: h, next: p } => match codec::reader::read_text(s, p, 51) {
+    match codec::reader::read_text(s, at, MAX_COMMAND_STRING_LEN) {
+        TextRead::Got { len: h, next: p } => match codec::reader::read_text(
+            s,
+            p,
+            MAX_COMMAND_STRING_LEN,
+        ) {
             TextRead::Got { len: i, next: q } => match codec::reader::read_number(
                 s,
                 q,
@@ -128,9 +133,9 @@ fn read_four(s: &[u8], at: usize) -> FourRead
                 ) {
                     NumberRead::Got(d) => FourRead::Got(Four {
                         value: a as u8,
-                        least: b as u8,
-                        greatest: c as u8,
-                        preset: d as u8,
+                        min_value: b as u8,
+                        max_value: c as u8,
+                        default_value: d as u8,
                     }),
                     NumberRead::Refused(r) => FourRead::Refused(r),
                 },
@@ -150,9 +155,9 @@ fn no_more(kind: ScreenAdditionalData, next: usize) -> More
         label: Span { at: 0, len: 0 },
         four: Four {
             value: 0,
-            least: 0,
-            greatest: 0,
-            preset: 0,
+            min_value: 0,
+            max_value: 0,
+            default_value: 0,
         },
         unit: Span { at: 0, len: 0 },
         next: next,
@@ -160,13 +165,13 @@ fn no_more(kind: ScreenAdditionalData, next: usize) -> More
 }
 
 // A selection: its label is not empty.
-fn read_chosen(s: &[u8], at: usize) -> MoreRead
+fn read_selection(s: &[u8], at: usize) -> MoreRead
     requires { ⌜ (at < length (now s)) × (getD (now s) at 0 ≡ 0 → ⊥) ⌝ }
-    ensures { λ r. ⌜ (toldMore (now (s .entry)) r ≡ readItems (moreItems (kindOf (drop at (now (s .entry))))) (now (s .entry)) at) × moreIn (now (s .entry)) at r ⌝ }
+    ensures { λ r. ⌜ (toldMore (now (s .entry)) r ≡ readItems (moreItems (additionalOf (drop at (now (s .entry))))) (now (s .entry)) at) × moreIn (now (s .entry)) at r ⌝ }
 {
-    match codec::reader::read_text(s, at, 51) {
+    match codec::reader::read_text(s, at, MAX_COMMAND_STRING_LEN) {
         TextRead::Got { len: l, next: p } => match read_four(s, p) {
-            FourRead::Got(f) => match codec::reader::read_text(s, p + 4, 51) {
+            FourRead::Got(f) => match codec::reader::read_text(s, p + 4, MAX_COMMAND_STRING_LEN) {
                 TextRead::Got { len: u, next: q } => MoreRead::Got(More {
                     kind: ScreenAdditionalData::Selection,
                     label: Span { at: at, len: l },
@@ -184,7 +189,7 @@ fn read_chosen(s: &[u8], at: usize) -> MoreRead
 
 fn read_more(s: &[u8], at: usize) -> MoreRead
     requires { ⌜ at ≤ length (now s) ⌝ }
-    ensures { λ r. ⌜ (toldMore (now (s .entry)) r ≡ readItems (moreItems (kindOf (drop at (now (s .entry))))) (now (s .entry)) at) × moreIn (now (s .entry)) at r ⌝ }
+    ensures { λ r. ⌜ (toldMore (now (s .entry)) r ≡ readItems (moreItems (additionalOf (drop at (now (s .entry))))) (now (s .entry)) at) × moreIn (now (s .entry)) at r ⌝ }
 {
     if s.len() <= at {
         return MoreRead::Got(no_more(ScreenAdditionalData::Absent, at));
@@ -192,7 +197,7 @@ fn read_more(s: &[u8], at: usize) -> MoreRead
     if s[at] == 0 {
         return MoreRead::Got(no_more(ScreenAdditionalData::Empty, at + 1));
     }
-    read_chosen(s, at)
+    read_selection(s, at)
 }
 
 fn read_values(s: &[u8], at: usize) -> ValuesRead
@@ -206,7 +211,7 @@ fn read_values(s: &[u8], at: usize) -> ValuesRead
             next: at,
         });
     }
-    match codec::reader::read_text(s, at, 51) {
+    match codec::reader::read_text(s, at, MAX_COMMAND_STRING_LEN) {
         TextRead::Got { len: n, next: q } => ValuesRead::Got(Values {
             present: true,
             text: Span { at: at, len: n },

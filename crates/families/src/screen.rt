@@ -1,7 +1,7 @@
 // 0x22 Screen: popups and the screen commands. The Rust's screen.rs; its texts are in text.rt.
 ghost use mathlib.Core.Path.{_≡_};
 ghost use mathlib.Core.List.{_∷_, []};
-ghost use Prim.Native.Nat.{_≤_, _<_, _+_};
+ghost use Prim.Native.Nat.{_≤_, _+_};
 ghost use lib.ListN.{length, take, drop};
 ghost use Rattle.codec.specs.Sheet.{got, refused, said};
 ghost use Rattle.codec.specs.Writing.{stopRoom, writeBody};
@@ -23,6 +23,9 @@ use codec::reader::Width;
 use codec::refusal::Outcome;
 use codec::refusal::Refusal;
 use codec::writer::Written;
+
+// "Popup data is at most 55 bytes."
+pub(crate) const MAX_POPUP_DATA_LEN: usize = 55;
 
 // The Rust's Option<ScreenAdditionalData>; the selection's texts and numbers stand beside it in the fields.
 pub enum ScreenAdditionalData {
@@ -75,11 +78,11 @@ pub struct ScreenAnswer {
 }
 
 // With a refusal comes a returned 0, cancelled, and nothing stored.
-fn refusal(n: Refusal) -> ScreenAnswer
-    ensures { λ r. ⌜ ScreenIs (refused (refusalNumber n) 0) r ⌝ }
+fn refused_with(why: Refusal) -> ScreenAnswer
+    ensures { λ r. ⌜ ScreenIs (refused (refusalNumber why) 0) r ⌝ }
 {
     ScreenAnswer {
-        outcome: Outcome::Refused(n),
+        outcome: Outcome::Refused(why),
         command: ScreenCommand::SelectionReturnValue {
             value: 0,
             response: false,
@@ -112,8 +115,8 @@ fn popup_of(body: &[u8], n: usize) -> ScreenAnswer
     requires { ⌜ 1 + n ≤ length (now body) ⌝ }
     ensures { λ r. ⌜ StoredIs n (take n (drop 1 (now (body .entry)))) r ⌝ }
 {
-    if 55 < n {
-        return refusal(Refusal::InvalidPayloadLength);
+    if MAX_POPUP_DATA_LEN < n {
+        return refused_with(Refusal::InvalidPayloadLength);
     }
     ScreenAnswer {
         outcome: Outcome::Accepted,
@@ -132,18 +135,18 @@ pub fn read(body: &[u8]) -> ScreenAnswer
         NumberRead::Got(sub) => match sub {
             0x01 => match crate::popup::parse(body, 1) {
                 PopupRead::Got(p) => popup_of(body, p.values.next - 1),
-                PopupRead::Refused(n) => refusal(n),
+                PopupRead::Refused(n) => refused_with(n),
             },
             0x02 => match codec::reader::read_number(body, 1, Width::One, 0, 255) {
                 NumberRead::Got(v) => match codec::reader::read_flag(body, 2) {
                     FlagRead::Got(f) => return_of(v as u8, f),
-                    FlagRead::Refused(n) => refusal(n),
+                    FlagRead::Refused(n) => refused_with(n),
                 },
-                NumberRead::Refused(n) => refusal(n),
+                NumberRead::Refused(n) => refused_with(n),
             },
-            _ => refusal(Refusal::InvalidPayload),
+            _ => refused_with(Refusal::InvalidPayload),
         },
-        NumberRead::Refused(n) => refusal(n),
+        NumberRead::Refused(n) => refused_with(n),
     }
 }
 
@@ -201,7 +204,7 @@ fn whole_popup(s: &[u8], n: usize) -> bool
 {
     match crate::popup::parse(s, 0) {
         PopupRead::Got(p) => p.values.next == n,
-        PopupRead::Refused(r) => false,
+        PopupRead::Refused(_) => false,
     }
 }
 
@@ -209,7 +212,7 @@ fn whole_popup(s: &[u8], n: usize) -> bool
 pub fn made(bytes: &[u8], len: usize) -> bool
     ensures { λ r. ⌜ r ≡ madePopup (record { len = len; bytes = now (bytes .entry) }) ⌝ }
 {
-    if 55 < len {
+    if MAX_POPUP_DATA_LEN < len {
         return false;
     }
     if bytes.len() <= len {
@@ -278,9 +281,9 @@ fn fields_at(s: &[u8], p: Places) -> ScreenPopupFields
         additional_data: k,
         selection_text: text_of(s, m.label),
         value: f.value,
-        min_value: f.least,
-        max_value: f.greatest,
-        default_value: f.preset,
+        min_value: f.min_value,
+        max_value: f.max_value,
+        default_value: f.default_value,
         unit: text_of(s, m.unit),
         has_possible_values: v.present,
         possible_values: text_of(s, v.text),
@@ -300,7 +303,7 @@ fn whole_fields(s: &[u8]) -> FieldsAnswer
                 fields: fields_at(s, p),
             }
         }
-        PopupRead::Refused(n) => not_made(),
+        PopupRead::Refused(_) => not_made(),
     }
 }
 
@@ -308,7 +311,7 @@ fn fields_in(s: &[u8], n: usize) -> FieldsAnswer
     requires { ⌜ length (now s) ≡ 55 ⌝ }
     ensures { λ r. ⌜ FieldsIs (inspect (record { len = n; bytes = now (s .entry) })) r ⌝ }
 {
-    if 55 < n {
+    if MAX_POPUP_DATA_LEN < n {
         return not_made();
     }
     if crate::text::zero_after(s, n) {

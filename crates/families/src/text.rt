@@ -10,7 +10,7 @@ use codec::refusal::Outcome;
 use codec::refusal::Refusal;
 
 // "A text is up to 51 nonzero bytes"
-const MOST: usize = 51;
+pub(crate) const MAX_COMMAND_STRING_LEN: usize = 51;
 
 pub struct CommandString {
     pub len: usize,
@@ -56,17 +56,17 @@ pub(crate) fn zero_after(s: &[u8], n: usize) -> bool
 }
 
 // Stored bytes: at most so many, nonzero, and zeros after them.
-pub fn made_bytes(s: &[u8], n: usize, most: usize) -> bool
-    ensures { λ r. ⌜ r ≡ madeBytes most n (now (s .entry)) ⌝ }
+pub fn made_bytes(bytes: &[u8], len: usize, most: usize) -> bool
+    ensures { λ r. ⌜ r ≡ madeBytes most len (now (bytes .entry)) ⌝ }
 {
-    if most < n {
+    if most < len {
         return false;
     }
-    if s.len() < n {
-        return all_nonzero(s);
+    if bytes.len() < len {
+        return all_nonzero(bytes);
     }
-    if all_nonzero(&s[..n]) {
-        return zero_after(s, n);
+    if all_nonzero(&bytes[..len]) {
+        return zero_after(bytes, len);
     }
     false
 }
@@ -112,7 +112,7 @@ impl CommandString {
         ensures { λ r. ⌜ TextIs (newText (now (bytes .entry))) r ⌝ }
     {
         if all_nonzero(bytes) {
-            if MOST < bytes.len() {
+            if MAX_COMMAND_STRING_LEN < bytes.len() {
                 return refused_with(Refusal::InvalidPayloadLength);
             }
             let text = text_at(bytes, 0, bytes.len());
@@ -128,6 +128,6 @@ impl CommandString {
         ensures { λ r. ⌜ r ≡ madeText self ⌝ }
     {
         let b = self.bytes;
-        made_bytes(&b, self.len, MOST)
+        made_bytes(&b, self.len, MAX_COMMAND_STRING_LEN)
     }
 }

@@ -15,6 +15,7 @@ use Rattle.codec.specs.declared.refusal.Outcome.the-variants.{Accepted}
 use Rattle.codec.proofs.Back.{both}
 use Rattle.families.specs.Fields.{FieldsIs}
 use Rattle.families.specs.Sizes.{Sized}
+use Rattle.families.proofs.ScreenLaws.{bit-is}
 use Rattle.families.specs.declared.text.CommandString.{CommandString}
 use Rattle.families.specs.declared.screen.ScreenAdditionalData.{ScreenAdditionalData}
 use Rattle.families.specs.declared.screen.ScreenAdditionalData.the-variants.{Absent, Empty, Selection}
@@ -25,10 +26,6 @@ use Rattle.images.proofs.TextLaws.{text-size, copied-whole, byte-mod}
 use Rattle.images.proofs.FieldsPut.{fields-size}
 
 -- ---- flags and kinds
-pub bit-back : (b : Bool) → eqb (bit b) 1 ≡ b
-bit-back true = refl
-bit-back false = refl
-
 pub kind-back : (k : ScreenAdditionalData) → kindAt (kindByte k) ≡ k
 kind-back Absent = refl
 kind-back Empty = refl
@@ -158,7 +155,7 @@ module _ (f : ScreenPopupFields) (z : Sized f) (r : Short f) where
       (text-front (f .header) (textImage (f .info) ++ behindInfo f) (z .0) (r .0))
       (text-info 0 ∙ text-front (f .info) (behindInfo f) (z .1 .0) (r .1 .0))
       (behind-info 0)
-      (ap (λ (n : ℕ). eqb n 1) (behind-info 1) ∙ bit-back (f .«close_button_option»))
+      (ap (λ (n : ℕ). eqb n 1) (behind-info 1) ∙ bit-is (f .«close_button_option»))
       (ap kindAt (behind-info 2) ∙ kind-back (f .«additional_data»))
       label-at
       (number-at 0)
@@ -166,7 +163,7 @@ module _ (f : ScreenPopupFields) (z : Sized f) (r : Short f) where
       (number-at 2)
       (number-at 3)
       unit-at
-      (ap (λ (n : ℕ). eqb n 1) present-at ∙ bit-back (f .«has_possible_values»))
+      (ap (λ (n : ℕ). eqb n 1) present-at ∙ bit-is (f .«has_possible_values»))
       values-at
 
   pub fields-back : fieldsFrom (fieldsImage f) ≡ got f

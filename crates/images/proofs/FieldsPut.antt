@@ -22,8 +22,8 @@ abbrev pub headPart : ScreenPopupFields → List ℕ
 headPart f =
     textImage (f .header) ++ (textImage (f .info) ++ f .«max_timeout_interval» ∷ bit (f .«close_button_option») ∷ kindByte (f .«additional_data») ∷ [])
 
-abbrev pub chosenPart : ScreenPopupFields → List ℕ
-chosenPart f =
+abbrev pub selectionPart : ScreenPopupFields → List ℕ
+selectionPart f =
     textImage (f .«selection_text») ++ ((f .value ∷ f .«min_value» ∷ f .«max_value» ∷ f .«default_value» ∷ []) ++ textImage (f .unit))
 
 abbrev pub valuesPart : ScreenPopupFields → List ℕ
@@ -32,7 +32,7 @@ valuesPart f = bit (f .«has_possible_values») ∷ textImage (f .«possible_val
 joined : (h i t l n u v : List ℕ) → (h ++ (i ++ t)) ++ ((l ++ (n ++ u)) ++ v) ≡ h ++ (i ++ (t ++ (l ++ (n ++ (u ++ v)))))
 joined h i t l n u v = simp append-assoc
 
-parts : (f : ScreenPopupFields) → headPart f ++ (chosenPart f ++ valuesPart f) ≡ fieldsImage f
+parts : (f : ScreenPopupFields) → headPart f ++ (selectionPart f ++ valuesPart f) ≡ fieldsImage f
 parts f =
     joined (textImage (f .header)) (textImage (f .info)) (f .«max_timeout_interval» ∷ bit (f .«close_button_option») ∷ kindByte (f .«additional_data») ∷ [])
     (textImage (f .«selection_text»)) (f .value ∷ f .«min_value» ∷ f .«max_value» ∷ f .«default_value» ∷ []) (textImage (f .unit)) (valuesPart f)
@@ -46,8 +46,8 @@ module _ (f : ScreenPopupFields) (z : Sized f) where
       three (textImage (f .header)) (textImage (f .info)) (f .«max_timeout_interval» ∷ bit (f .«close_button_option») ∷ kindByte (f .«additional_data») ∷ []) 52 52 3
       (text-size (f .header) (z .0)) (text-size (f .info) (z .1 .0)) refl
 
-  chosen-size : length (chosenPart f) ≡ 108
-  chosen-size =
+  selection-size : length (selectionPart f) ≡ 108
+  selection-size =
       three (textImage (f .«selection_text»)) (f .value ∷ f .«min_value» ∷ f .«max_value» ∷ f .«default_value» ∷ []) (textImage (f .unit)) 52 4 52
       (text-size (f .«selection_text») (z .1 .1 .0)) refl (text-size (f .unit) (z .1 .1 .1 .0))
 
@@ -55,17 +55,17 @@ module _ (f : ScreenPopupFields) (z : Sized f) where
   values-size = let e = text-size (f .«possible_values») (z .1 .1 .1 .1) in omega arith
 
   pub fields-size : length (fieldsImage f) ≡ 268
-  fields-size = ap length (sym (parts f)) ∙ three (headPart f) (chosenPart f) (valuesPart f) 107 108 53 head-size chosen-size values-size
+  fields-size = ap length (sym (parts f)) ∙ three (headPart f) (selectionPart f) (valuesPart f) 107 108 53 head-size selection-size values-size
 
   -- the whole
-  pub all-put : (s s1 s2 s3 : List ℕ) → 268 ≤ length s → s1 ≡ sets s 0 (headPart f) → s2 ≡ sets s1 107 (chosenPart f) → s3 ≡ sets s2 215 (valuesPart f)
+  pub all-put : (s s1 s2 s3 : List ℕ) → 268 ≤ length s → s1 ≡ sets s 0 (headPart f) → s2 ≡ sets s1 107 (selectionPart f) → s3 ≡ sets s2 215 (valuesPart f)
       → s3 ≡ putAt s 0 (fieldsImage f)
   all-put s s1 s2 s3 h e1 e2 e3 =
       let n1 : 107 ≡ 0 + length (headPart f) = omega (arith, head-size) in
-      let n2 : 215 ≡ 107 + length (chosenPart f) = omega (arith, chosen-size) in
+      let n2 : 215 ≡ 107 + length (selectionPart f) = omega (arith, selection-size) in
       front-put s s3 (fieldsImage f) 268 fields-size h
-      (behind s s1 s3 (headPart f) (chosenPart f ++ valuesPart f) 0 107 e1 n1
-      (behind s1 s2 s3 (chosenPart f) (valuesPart f) 107 215 e2 n2 e3)
+      (behind s s1 s3 (headPart f) (selectionPart f ++ valuesPart f) 0 107 e1 n1
+      (behind s1 s2 s3 (selectionPart f) (valuesPart f) 107 215 e2 n2 e3)
       ∙ ap (λ (w : List ℕ). sets s 0 w) (parts f))
 
 -- ---- the parts themselves
@@ -81,10 +81,10 @@ head-put s s1 s2 s3 h i t c k x y lh li r e1 e2 e3 g1 g2 =
     let n2 : 104 ≡ 52 + length (textImage i) = omega (arith, text-size i li) in
     behind s s1 s3 (textImage h) (textImage i ++ t ∷ c ∷ k ∷ []) 0 52 e1 n1 (behind s1 s2 s3 (textImage i) (t ∷ c ∷ k ∷ []) 52 104 e2 n2 q)
 
-pub chosen-put : (s s1 s2 s3 : List ℕ) (l u : CommandString) (a b c d : ℕ) → length (l .bytes) ≡ 51 → length (u .bytes) ≡ 51 → 268 ≤ length s
+pub selection-put : (s s1 s2 s3 : List ℕ) (l u : CommandString) (a b c d : ℕ) → length (l .bytes) ≡ 51 → length (u .bytes) ≡ 51 → 268 ≤ length s
     → s1 ≡ sets s 107 (textImage l) → s2 ≡ putAt s1 159 (a ∷ b ∷ c ∷ d ∷ []) → s3 ≡ sets s2 163 (textImage u)
     → s3 ≡ sets s 107 (textImage l ++ ((a ∷ b ∷ c ∷ d ∷ []) ++ textImage u))
-chosen-put s s1 s2 s3 l u a b c d ll lu r e1 e2 e3 =
+selection-put s s1 s2 s3 l u a b c d ll lu r e1 e2 e3 =
     let k1 = kept s (textImage l) 107 e1 in
     let p : s2 ≡ sets s1 159 (a ∷ b ∷ c ∷ d ∷ []) = e2 ∙ put-fits s1 159 (a ∷ b ∷ c ∷ d ∷ []) (omega arith) in
     let n1 : 159 ≡ 107 + length (textImage l) = omega (arith, text-size l ll) in

@@ -5,3 +5,4 @@ pub mod FieldsPut
 pub mod FieldsLaws
 pub mod OneAnswerImages
 pub mod RecordLaws
+pub mod RuledOut

@@ -5,16 +5,8 @@ use contract.Lifetimes.{Lfts}
 use borrow.Fn.Kinds.{Dens, resT, endedOf}
 use denote.Ref.{now}
 use denote.Triple.Clauses.{AtExit}
-use Rattle.codec.specs.Sheet.{Answer}
-use Rattle.codec.proofs.Outcomes.{outcome-one}
-use Rattle.families.specs.Fields.{PopupIs, FieldsIs}
-use Rattle.families.specs.declared.screen.ScreenPopup.{ScreenPopup}
-use Rattle.families.specs.declared.screen.PopupAnswer.{PopupAnswer}
-use Rattle.families.specs.declared.screen.ScreenPopupFields.{ScreenPopupFields}
-use Rattle.families.specs.declared.screen.FieldsAnswer.{FieldsAnswer}
-use Rattle.commands.specs.Reading.{CommandIs}
-use Rattle.commands.specs.declared.DirectCommands.{DirectCommands}
-use Rattle.commands.specs.declared.CommandAnswer.{CommandAnswer}
+use Rattle.families.proofs.OneAnswerScreen.{popup-answer-one, fields-answer-one}
+use Rattle.commands.proofs.OneAnswer.{answer-one}
 use Rattle.images.specs.Popup.{popupFrom}
 use Rattle.images.specs.Fields.{fieldsFrom}
 use Rattle.images.specs.Record.{recordFrom}
@@ -35,17 +27,6 @@ use Rattle.images.proofs.record.put.Kinds as put-record-kinds
 use Rattle.images.proofs.record.from.Reads as from-record
 use Rattle.images.proofs.record.from.Kinds as from-record-kinds
 
--- ---- what an answer is fixes it
-pub popup-answer-one : (a : Answer ScreenPopup) (x y : PopupAnswer) → PopupIs a x → PopupIs a y → x ≡ y
-popup-answer-one a x y p q = rw (outcome-one (x .outcome) (y .outcome) (p .0 ∙ sym (q .0)), p .1 ∙ sym (q .1))
-
-pub fields-answer-one : (a : Answer ScreenPopupFields) (x y : FieldsAnswer) → FieldsIs a x → FieldsIs a y → x ≡ y
-fields-answer-one a x y p q = rw (outcome-one (x .outcome) (y .outcome) (p .0 ∙ sym (q .0)), p .1 ∙ sym (q .1))
-
-pub command-answer-one : (a : Answer DirectCommands) (x y : CommandAnswer) → CommandIs a x → CommandIs a y → x ≡ y
-command-answer-one a x y p q = rw (outcome-one (x .outcome) (y .outcome) (p .0 ∙ sym (q .0)), p .1 ∙ sym (q .1))
-
--- ---- the functions
 pub text-one : (κs : Lfts 1) (a : Dens κs text-kinds.ps) (x y : resT text-kinds.r κs .Denot) (s t : AtExit (endedOf 1 text-kinds.ps text-kinds.r) κs)
     → text.Post κs a x s → text.Post κs a y t → now (s .1 .0) ≡ now (t .1 .0)
 text-one κs a x y s t p q = p ∙ sym q
@@ -76,4 +57,4 @@ put-record-one κs a x y s t p q = p ∙ sym q
 
 pub from-record-one : (κs : Lfts 1) (a : Dens κs from-record-kinds.ps) (x y : resT from-record-kinds.r κs .Denot) (s t : AtExit (endedOf 1 from-record-kinds.ps from-record-kinds.r) κs)
     → from-record.Post κs a x s → from-record.Post κs a y t → x ≡ y
-from-record-one κs a x y s t p q = command-answer-one (recordFrom (now (a .0))) x y p q
+from-record-one κs a x y s t p q = answer-one (recordFrom (now (a .0))) x y p q

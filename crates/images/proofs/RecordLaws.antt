@@ -40,7 +40,7 @@ use Rattle.images.specs.Text.{stored}
 use Rattle.images.specs.Values.{payloadLaid, wordAt, longAt, payloadAt}
 use Rattle.images.specs.Record.{recordImage, recordAt, recordFrom}
 use Rattle.images.proofs.TextLaws.{front-put, copied-whole, byte-mod}
-use Rattle.images.proofs.FieldsLaws.{bit-back}
+use Rattle.families.proofs.ScreenLaws.{bit-is}
 
 -- a number of four bytes is two of two
 pub long-is : (s : List ℕ) (at r a b : ℕ) → r ≡ a * 65536 + b → a ≡ wordAt s at → b ≡ wordAt s (at + 2) → r ≡ longAt s at
@@ -243,7 +243,7 @@ payload-back (Fc ForceDisarm) dst src t h = refl
 payload-back (Fc ScaleChannel) dst src t h = refl
 payload-back (Osd c) dst src t h = refl
 payload-back (Vtx (SetFrequency f)) dst src t h = ap (λ (n : ℕ). Vtx (SetFrequency n)) (number-bytes 2 f h)
-payload-back (Vtx (EnablePitModeOnPowerUp mode control switch)) dst src t h = ap (λ (b : Bool). Vtx (EnablePitModeOnPowerUp b control switch)) (bit-back mode)
+payload-back (Vtx (EnablePitModeOnPowerUp mode control switch)) dst src t h = ap (λ (b : Bool). Vtx (EnablePitModeOnPowerUp b control switch)) (bit-is mode)
 payload-back (Vtx PowerUpFromPitMode) dst src t h = refl
 payload-back (Vtx (SetDynamicPower p)) dst src t h = refl
 payload-back (Vtx (SetPower p)) dst src t h = refl
@@ -258,7 +258,7 @@ payload-back (Led (OverrideBlink n a b)) dst src t h =
 payload-back (Led (OverrideShift n c)) dst src t h =
     ap (λ (c : LedCommand). Led c) (fade-back (λ x y z. OverrideShift x y) n _ _ _ c c (number-bytes 2 n (h .0)) (number-bytes 2 (c .hue) (h .1)) refl)
 payload-back (General (SpeedProposal port baud)) dst src t h = ap (λ (n : ℕ). General (SpeedProposal port n)) (number-bytes 4 baud h)
-payload-back (General (SpeedProposalResponse port accepted)) dst src t h = ap (λ (b : Bool). General (SpeedProposalResponse port b)) (bit-back accepted)
+payload-back (General (SpeedProposalResponse port accepted)) dst src t h = ap (λ (b : Bool). General (SpeedProposalResponse port b)) (bit-is accepted)
 payload-back (Crossfire SetReceiverInBindMode) dst src t h = refl
 payload-back (Crossfire CancelBindMode) dst src t h = refl
 payload-back (Crossfire SetBindId) dst src t h = refl
@@ -272,7 +272,7 @@ payload-back (Crossfire ResetToFactoryFirmware) dst src t h = refl
 payload-back (FlowControl (Subscribe frame interval)) dst src t h = ap (λ (n : ℕ). FlowControl (Subscribe frame n)) (number-bytes 2 interval h)
 payload-back (FlowControl (Unsubscribe frame)) dst src t h = refl
 payload-back (Screen PopupMessageStart) dst src t h = refl
-payload-back (Screen (SelectionReturnValue value response)) dst src t h = ap (λ (b : Bool). Screen (SelectionReturnValue value b)) (bit-back response)
+payload-back (Screen (SelectionReturnValue value response)) dst src t h = ap (λ (b : Bool). Screen (SelectionReturnValue value b)) (bit-is response)
 payload-back (Ack a) dst src t h = refl
 
 record-same : (c : DirectCommands) (p : CommandPayload) (n : ℕ) (b : List ℕ) → p ≡ c .payload → n ≡ c .len → b ≡ c .bytes

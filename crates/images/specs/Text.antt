@@ -4,7 +4,7 @@ use mathlib.Core.List.{List, _∷_}
 use Rattle.families.specs.Text.{textOf}
 use Rattle.families.specs.declared.text.CommandString.{CommandString}
 
--- a stored length, one byte, and the bytes; a length of 256 or more has no image
+-- a stored length in one byte, and the bytes; of a length of 256 or more, which no made record has, the last 8 bits
 abbrev pub stored : ℕ → List ℕ → List ℕ
 stored n b = n % 256 ∷ b
 

@@ -49,15 +49,15 @@ vtxLaid (SetDynamicPower p) = laid 0x06 (p ∷ [])
 vtxLaid (SetPower p) = laid 0x08 (p ∷ [])
 
 -- "a colour: hue 2, saturation 1, value 1"
-abbrev pub colourBytes : LedColor → List ℕ
-colourBytes c = bytesOf 2 (c .hue) ++ c .saturation ∷ c .value ∷ []
+abbrev pub colorBytes : LedColor → List ℕ
+colorBytes c = bytesOf 2 (c .hue) ++ c .saturation ∷ c .value ∷ []
 
 abbrev pub ledLaid : LedCommand → List ℕ
 ledLaid SetDefault = laid 0x01 []
-ledLaid (OverrideColor c) = laid 0x02 (colourBytes c)
-ledLaid (OverridePulse t a b) = laid 0x03 (bytesOf 2 t ++ (colourBytes a ++ colourBytes b))
-ledLaid (OverrideBlink t a b) = laid 0x04 (bytesOf 2 t ++ (colourBytes a ++ colourBytes b))
-ledLaid (OverrideShift t c) = laid 0x05 (bytesOf 2 t ++ colourBytes c)
+ledLaid (OverrideColor c) = laid 0x02 (colorBytes c)
+ledLaid (OverridePulse t a b) = laid 0x03 (bytesOf 2 t ++ (colorBytes a ++ colorBytes b))
+ledLaid (OverrideBlink t a b) = laid 0x04 (bytesOf 2 t ++ (colorBytes a ++ colorBytes b))
+ledLaid (OverrideShift t c) = laid 0x05 (bytesOf 2 t ++ colorBytes c)
 
 -- "a flag 1"
 abbrev pub generalLaid : GeneralCommand → List ℕ
@@ -113,8 +113,8 @@ longAt s at = numberOf (getD s at 0 ∷ getD s (at + 1) 0 ∷ getD s (at + 2) 0 
 abbrev pub flagAt : List ℕ → ℕ → Bool
 flagAt s at = eqb (getD s at 0) 1
 
-abbrev pub colourAt : List ℕ → ℕ → LedColor
-colourAt s at = record { hue = wordAt s at; saturation = getD s (at + 2) 0; value = getD s (at + 3) 0 }
+abbrev pub colorAt : List ℕ → ℕ → LedColor
+colorAt s at = record { hue = wordAt s at; saturation = getD s (at + 2) 0; value = getD s (at + 3) 0 }
 
 abbrev pub fcAt : List ℕ → FcCommand
 fcAt s = pick (eqb (subAt s) 0x01) ForceDisarm ScaleChannel
@@ -132,10 +132,10 @@ vtxAt s =
 abbrev pub ledAt : List ℕ → LedCommand
 ledAt s =
     pick (eqb (subAt s) 0x01) SetDefault
-    (pick (eqb (subAt s) 0x02) (OverrideColor (colourAt s 4))
-    (pick (eqb (subAt s) 0x03) (OverridePulse (wordAt s 4) (colourAt s 6) (colourAt s 10))
-    (pick (eqb (subAt s) 0x04) (OverrideBlink (wordAt s 4) (colourAt s 6) (colourAt s 10))
-    (OverrideShift (wordAt s 4) (colourAt s 6)))))
+    (pick (eqb (subAt s) 0x02) (OverrideColor (colorAt s 4))
+    (pick (eqb (subAt s) 0x03) (OverridePulse (wordAt s 4) (colorAt s 6) (colorAt s 10))
+    (pick (eqb (subAt s) 0x04) (OverrideBlink (wordAt s 4) (colorAt s 6) (colorAt s 10))
+    (OverrideShift (wordAt s 4) (colorAt s 6)))))
 
 abbrev pub generalAt : List ℕ → GeneralCommand
 generalAt s = pick (eqb (subAt s) 0x70) (SpeedProposal (getD s 4 0) (longAt s 5)) (SpeedProposalResponse (getD s 4 0) (flagAt s 5))

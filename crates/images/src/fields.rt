@@ -57,19 +57,19 @@ fn put_head(
 }
 
 // Label, value, min, max, default, unit.
-fn put_chosen(
+fn put_selection(
     out: &mut [u8],
     l: CommandString,
     value: u8,
-    least: u8,
-    greatest: u8,
-    preset: u8,
+    min_value: u8,
+    max_value: u8,
+    default_value: u8,
     u: CommandString,
 )
     requires { ⌜ 268 ≤ length (now out) ⌝ }
-    ensures { λ r. ⌜ now (out .exit) ≡ sets (now (out .entry)) 107 (textImage l ++ ((value ∷ least ∷ greatest ∷ preset ∷ []) ++ textImage u)) ⌝ }
+    ensures { λ r. ⌜ now (out .exit) ≡ sets (now (out .entry)) 107 (textImage l ++ ((value ∷ «min_value» ∷ «max_value» ∷ «default_value» ∷ []) ++ textImage u)) ⌝ }
 {
-    let four = [value, least, greatest, preset];
+    let four = [value, min_value, max_value, default_value];
     put_text(out, 107, l);
     codec::writer::put_bytes(out, 159, &four);
     put_text(out, 163, u);
@@ -97,7 +97,7 @@ pub fn put(f: ScreenPopupFields, out: &mut [u8])
     put_head(out, h, i, f.max_timeout_interval, f.close_button_option, k);
     let l = f.selection_text;
     let u = f.unit;
-    put_chosen(
+    put_selection(
         out,
         l,
         f.value,

@@ -4,7 +4,7 @@ ghost use mathlib.Core.List.{_∷_, [], _++_};
 ghost use Prim.Native.Nat.{_+_, _*_, _/_, _%_, _<_, _≤_};
 ghost use lib.ListN.{length};
 ghost use Rattle.codec.specs.Digits.{numberOf, bytesOf};
-ghost use Rattle.images.specs.Values.{laid, fcLaid, vtxLaid, colourBytes, ledLaid, generalLaid, crossfireLaid, flowLaid, screenLaid, ackLaid, payloadLaid, wordAt, longAt, colourAt, fcAt, vtxAt, ledAt, generalAt, crossfireAt, flowAt, screenAt, ackAt, payloadAt};
+ghost use Rattle.images.specs.Values.{laid, fcLaid, vtxLaid, colorBytes, ledLaid, generalLaid, crossfireLaid, flowLaid, screenLaid, ackLaid, payloadLaid, wordAt, longAt, colorAt, fcAt, vtxAt, ledAt, generalAt, crossfireAt, flowAt, screenAt, ackAt, payloadAt};
 use families::ack::CommandAck;
 use families::crossfire::CrossfireCommand;
 use families::fc::FcCommand;
@@ -79,7 +79,7 @@ fn vtx_laid(c: VtxCommand) -> [u8; 11]
 }
 
 fn color_laid(c: LedColor) -> [u8; 11]
-    ensures { λ r. ⌜ r ≡ laid 0x02 (colourBytes c) ⌝ }
+    ensures { λ r. ⌜ r ≡ laid 0x02 (colorBytes c) ⌝ }
 {
     let h = c.hue as u32;
     let high = digit(h, 256);
@@ -89,7 +89,7 @@ fn color_laid(c: LedColor) -> [u8; 11]
 
 // A pulse or a blink, by its sub-command.
 fn fade_laid(sub: u8, time: u16, start: LedColor, stop: LedColor) -> [u8; 11]
-    ensures { λ r. ⌜ r ≡ laid sub (bytesOf 2 time ++ (colourBytes start ++ colourBytes stop)) ⌝ }
+    ensures { λ r. ⌜ r ≡ laid sub (bytesOf 2 time ++ (colorBytes start ++ colorBytes stop)) ⌝ }
 {
     let t = time as u32;
     let a = start.hue as u32;
@@ -110,7 +110,7 @@ fn fade_laid(sub: u8, time: u16, start: LedColor, stop: LedColor) -> [u8; 11]
 }
 
 fn shift_laid(time: u16, c: LedColor) -> [u8; 11]
-    ensures { λ r. ⌜ r ≡ laid 0x05 (bytesOf 2 time ++ colourBytes c) ⌝ }
+    ensures { λ r. ⌜ r ≡ laid 0x05 (bytesOf 2 time ++ colorBytes c) ⌝ }
 {
     let t = time as u32;
     let h = c.hue as u32;
@@ -280,7 +280,7 @@ fn long_at(image: &[u8], at: usize) -> u32
 
 fn color_at(image: &[u8], at: usize) -> LedColor
     requires { ⌜ at + 4 ≤ length (now image) ⌝ }
-    ensures { λ r. ⌜ r ≡ colourAt (now (image .entry)) at ⌝ }
+    ensures { λ r. ⌜ r ≡ colorAt (now (image .entry)) at ⌝ }
 {
     LedColor {
         hue: word_at(image, at),

@@ -12,17 +12,19 @@ use lib.Seq.{sets, drop-cons, drop-drop, take-append-le, drop-append-le, take-ap
 use lib.Dec.{ltb}
 use Rattle.crc.specs.Check.{Bytes}
 use Rattle.codec.specs.Pick.{pick}
-use Rattle.codec.specs.Sheet.{Answer}
+use Rattle.codec.specs.Sheet.{Answer, got}
+use Rattle.codec.specs.Refusals.{valueIn}
 use Rattle.codec.proofs.Loops.{sets-append}
 use Rattle.commands.specs.Reading.{readCommand}
 use Rattle.commands.specs.declared.DirectCommands.{DirectCommands}
 use Rattle.commands.proofs.Known.{read-long}
 use Rattle.listing.specs.Listing.{lineOf, linesFrom, listing}
-use Rattle.listing.specs.Step.{inLimits, opened, keptWith, lineWith, goOn, stepOf, closing}
-use Rattle.listing.specs.Chunks.{Fed, fed, linesIn, stateIn, before, steps, last, inChunks, joined}
+use Rattle.listing.specs.Step.{toldListed, inLimits, opened, keptWith, lineWith, goOn, stepOf, closing}
+use Rattle.listing.specs.Chunks.{Fed, fed, linesIn, stateIn, before, steps, inChunks, joined}
 use Rattle.listing.specs.declared.line.Line.{Line}
 use Rattle.listing.specs.declared.line.Line.the-variants.{Cut}
 use Rattle.listing.specs.declared.Listing.{Listing}
+use Rattle.listing.specs.declared.Listed.{Listed}
 use Rattle.listing.specs.declared.Listed.the-variants.{Line as Found, Nothing}
 use Rattle.listing.specs.declared.Step.{Step}
 use Rattle.listing.proofs.StepLaws.{picked, passed, limits-between, limits-inside, goes-none, goes-line, step-none, step-opens, step-goes, closing-end, closing-cut, take-put, line-whole}
@@ -67,10 +69,10 @@ limits-after k [] h u = limits-between (after k []) h refl refl
 limits-after k (n ∷ t) h u = limits-inside (after k (n ∷ t)) h (u .1) (u .0)
 
 -- at the end of the input
-closes : (k : ℕ) (p : List ℕ) → k < 18446744073709551615 → Unfinished p → last (closing (after k p)) ≡ lines k p
-closes k [] h u = ap last (closing-end (after k []) (limits-after k [] h u) refl)
+closes : (k : ℕ) (p : List ℕ) → k < 18446744073709551615 → Unfinished p → valueIn [] (toldListed (closing (after k p))) ≡ lines k p
+closes k [] h u = ap (λ (x : Listed). valueIn [] (toldListed x)) (closing-end (after k []) (limits-after k [] h u) refl)
 closes k (n ∷ t) h u =
-    ap last (closing-cut (after k (n ∷ t)) (limits-after k (n ∷ t) h u) (λ e. omega (arith, u .0))) ∙ sym (lines-cut k n t (u .0))
+    ap (λ (x : Listed). valueIn [] (toldListed x)) (closing-cut (after k (n ∷ t)) (limits-after k (n ∷ t) h u) (λ e. omega (arith, u .0))) ∙ sym (lines-cut k n t (u .0))
 
 -- ---- one step from such a state
 kept-is : (k n : ℕ) (t u : List ℕ) → keptWith (after k (n ∷ t)) u ≡ after k (n ∷ (t ++ u))
@@ -243,7 +245,7 @@ goes-by f k p c at h b more-steps (none i e v) = record {
   found = [];
   count = k;
   rest = p ++ drop at c;
-  feeds = ap (λ (x : Step). before (x .listed) (x .state) (steps f (x .state) c (x .at))) e;
+  feeds = ap (λ (x : Step). before (toldListed (x .listed)) (x .state) (steps f (x .state) c (x .at))) e;
   unfinished = v;
   most = omega arith;
   agrees = λ more. ap (λ (x : List ℕ). lines k x) (sym (append-assoc p (drop at c) more));
@@ -256,8 +258,8 @@ goes-by f k p c at h b more-steps (line l i e a d g) =
       count = r .count;
       rest = r .rest;
       feeds =
-          ap (λ (x : Step). before (x .listed) (x .state) (steps f (x .state) c (x .at))) e
-          ∙ ap (λ (x : Fed). before (Found l) (after (k + 1) []) x) (r .feeds);
+          ap (λ (x : Step). before (toldListed (x .listed)) (x .state) (steps f (x .state) c (x .at))) e
+          ∙ ap (λ (x : Fed). before (got (l ∷ [])) (after (k + 1) []) x) (r .feeds);
       unfinished = r .unfinished;
       most = omega (arith, r .most);
       agrees = λ more. g more ∙ ap (λ (x : List Line). l ∷ x) (r .agrees more);

@@ -5,3 +5,4 @@ pub mod Chunks
 pub mod OneAnswer
 pub mod Earned
 pub mod Example
+pub mod RuledOut

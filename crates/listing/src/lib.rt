@@ -1,6 +1,6 @@
 // Document 01, "The listing", as a step over a chunk of the input. Nothing here reads or writes.
 ghost use mathlib.Core.Path.{_≡_};
-ghost use Prim.Native.Nat.{_+_, _-_, _≤_, _<_};
+ghost use Prim.Native.Nat.{_+_, _≤_, _<_};
 ghost use lib.ListN.{length};
 ghost use Rattle.commands.specs.Reading.{readCommand};
 ghost use Rattle.listing.specs.Listing.{lineOf};
@@ -16,7 +16,8 @@ mod written;
 // A payload longer than this is refused whatever it holds.
 const MOST_KEPT: usize = 60;
 
-const LONGEST: usize = 255;
+// A length byte holds no more.
+const LONGEST_PAYLOAD: usize = 255;
 
 // Between two chunks: the records so far; of the one that is cut, its length, how many payload bytes have come, and they, where
 // they matter. Between records both numbers are 0.
@@ -91,7 +92,7 @@ impl Listing {
         if u64::MAX <= self.count {
             return false;
         }
-        if LONGEST < self.wanted {
+        if LONGEST_PAYLOAD < self.wanted {
             return false;
         }
         if self.wanted == 0 {

@@ -43,6 +43,7 @@ fn edit_all_in(
 
 // The number and the payload, then the answer bytes. The byte before these stands where a number does elsewhere, and is not looked at.
 fn are_left(stored: &[u8], n: usize, word: u32, space: &[u8], answers: &[u8]) -> bool {
+    // No record is longer; the sums below stay small.
     if 1000 < n {
         return false;
     }

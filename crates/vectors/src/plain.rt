@@ -19,6 +19,7 @@ pub(crate) fn at(s: &[u8], i: usize) -> u8 {
 
 // Whether the n bytes of s from a place on are those of t from another on; past an end they are 0.
 pub(crate) fn same(s: &[u8], from: usize, t: &[u8], start: usize, n: usize) -> bool {
+    // No record is longer; the sums below stay small.
     if 1000 < from {
         return false;
     }

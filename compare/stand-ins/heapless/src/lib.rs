@@ -1,5 +1,7 @@
 //! Stands in for `heapless::Vec`: what uf-crsf's commands.rs and screen.rs use of it.
 #![no_std]
+// the signatures are heapless's own
+#![allow(clippy::new_without_default, clippy::result_unit_err)]
 
 use core::fmt;
 use core::mem::MaybeUninit;

@@ -8,11 +8,11 @@ use Rattle.edits.proofs.edit.Tie as tie
 open-requires : tie.Need-open-requires
 open-requires c κs = search needs
 
-enum-known-sheet : tie.Need-enum-known-sheet
-enum-known-sheet c = search needs
+enum-known-layout : tie.Need-enum-known-layout
+enum-known-layout c = search needs
 
 apply-requires : tie.Need-apply-requires
-apply-requires c κs = opened-is (now (c .before .before .before .before .before .before .before .args .payload)) (c .before .before .before .before .«open» .result) (c .before .before .sheet .given .0 .0) (c .before .before .sheet .given .1) (c .before .before .before .before .«open» .ensures)
+apply-requires c κs = opened-is (now (c .before .before .before .before .before .before .before .args .payload)) (c .before .before .before .before .«open» .result) (c .before .before .layout .given .0 .0) (c .before .before .layout .given .1) (c .before .before .before .before .«open» .ensures)
 
 enum-known-r : tie.Need-enum-known-r
 enum-known-r c = search needs
@@ -37,7 +37,7 @@ edit-spec =
     tie.close
     (tie.spec
     open-requires
-    enum-known-sheet
+    enum-known-layout
     apply-requires
     enum-known-r
     number-requires

@@ -21,11 +21,11 @@ returns-2 c = rw (c .number2 .ensures) (list-short (now (c .before .before .befo
 open-requires : tie.Need-open-requires
 open-requires c κs = search needs
 
-enum-known-sheet : tie.Need-enum-known-sheet
-enum-known-sheet c = search needs
+enum-known-layout : tie.Need-enum-known-layout
+enum-known-layout c = search needs
 
 apply-each-requires : tie.Need-apply-each-requires
-apply-each-requires c κs = (opened-is (now (c .before .before .before .before .before .before .before .before .before .before .before .before .args .payload)) (c .before .before .before .before .before .«open» .result) (c .before .before .before .sheet .given .0 .0) (c .before .before .before .sheet .given .1) (c .before .before .before .before .before .«open» .ensures), (omega arith, c .before .before .before .before .before .before .before .if2 .left))
+apply-each-requires c κs = (opened-is (now (c .before .before .before .before .before .before .before .before .before .before .before .before .args .payload)) (c .before .before .before .before .before .«open» .result) (c .before .before .before .layout .given .0 .0) (c .before .before .before .layout .given .1) (c .before .before .before .before .before .«open» .ensures), (omega arith, c .before .before .before .before .before .before .before .if2 .left))
 
 enum-known-r : tie.Need-enum-known-r
 enum-known-r c = search needs
@@ -63,7 +63,7 @@ edit-list-spec =
     number-requires-2
     returns-2
     open-requires
-    enum-known-sheet
+    enum-known-layout
     apply-each-requires
     enum-known-r
     number-requires-3

@@ -10,7 +10,7 @@ beyond-requires : tie.Need-beyond-requires
 beyond-requires c κs = search needs
 
 returns : tie.Need-returns
-returns c = sym (put-not (now (c .before .before .before .before .args .s)) _ (now (c .before .before .before .before .args .t)) (test-true _ _ _ (c .before .beyond .ensures) (c .if1 .taken)))
+returns c = sym (put-not (now (c .before .before .before .before .args .buffer)) _ (now (c .before .before .before .before .args .bytes)) (test-true _ _ _ (c .before .beyond .ensures) (c .if1 .taken)))
 
 put-each-requires : tie.Need-put-each-requires
 put-each-requires c κs = test-false _ _ _ (c .before .before .beyond .ensures) (c .before .if1 .left)
@@ -19,7 +19,7 @@ same-length : tie.Need-same-length
 same-length c = search needs
 
 returns-2 : tie.Need-returns-2
-returns-2 c = (c .before .before .put-each .ensures) ∙ sym (put-fits (now (c .before .before .before .before .before .before .before .before .args .s)) _ (now (c .before .before .before .before .before .before .before .before .args .t)) (test-false _ _ _ (c .before .before .before .before .before .beyond .ensures) (c .before .before .before .before .if1 .left)))
+returns-2 c = (c .before .before .put-each .ensures) ∙ sym (put-fits (now (c .before .before .before .before .before .before .before .before .args .buffer)) _ (now (c .before .before .before .before .before .before .before .before .args .bytes)) (test-false _ _ _ (c .before .before .before .before .before .beyond .ensures) (c .before .before .before .before .if1 .left)))
 
 pub put-bytes-spec : {M : Type 1} → statement M
 put-bytes-spec =

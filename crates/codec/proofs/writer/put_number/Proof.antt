@@ -13,7 +13,7 @@ beyond-requires : tie.Need-beyond-requires
 beyond-requires c κs = search needs
 
 returns : tie.Need-returns
-returns c = sym (put-number-not (now (c .before .before .before .before .args .s)) _ _ _ _ (c .before .before .bytes-of .ensures .0) (test-true _ _ _ (c .before .beyond .ensures) (c .if1 .taken)))
+returns c = sym (put-number-not (now (c .before .before .before .before .args .buffer)) _ _ _ _ (c .before .before .bytes-of .ensures .0) (test-true _ _ _ (c .before .beyond .ensures) (c .if1 .taken)))
 
 put-back-requires : tie.Need-put-back-requires
 put-back-requires c κs = test-false _ _ _ (c .before .before .beyond .ensures) (c .before .if1 .left)
@@ -22,7 +22,7 @@ same-length : tie.Need-same-length
 same-length c = search needs
 
 returns-2 : tie.Need-returns-2
-returns-2 c = put-number-is (now (c .before .before .before .before .before .before .before .before .args .s)) _ _ _ _ _ (c .before .before .before .before .before .before .bytes-of .ensures .0) (test-false _ _ _ (c .before .before .before .before .before .beyond .ensures) (c .before .before .before .before .if1 .left)) (c .before .before .put-back .ensures)
+returns-2 c = put-number-is (now (c .before .before .before .before .before .before .before .before .args .buffer)) _ _ _ _ _ (c .before .before .before .before .before .before .bytes-of .ensures .0) (test-false _ _ _ (c .before .before .before .before .before .beyond .ensures) (c .before .before .before .before .if1 .left)) (c .before .before .put-back .ensures)
 
 pub put-number-spec : {M : Type 1} → statement M
 put-number-spec =

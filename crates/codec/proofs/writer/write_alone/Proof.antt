@@ -8,16 +8,16 @@ use Rattle.codec.proofs.writer.write_alone.Statement.{statement}
 use Rattle.codec.proofs.writer.write_alone.Tie as tie
 
 returns : tie.Need-returns
-returns c = writes-none (now (c .before .args .s)) (c .before .args .sub ∷ []) (c .if1 .taken)
+returns c = writes-none (now (c .before .args .buffer)) (c .before .args .sub ∷ []) (c .if1 .taken)
 
-slice-write-s : tie.Need-slice-write-s
-slice-write-s c = search needs
+slice-write-buffer : tie.Need-slice-write-buffer
+slice-write-buffer c = search needs
 
 same-length : tie.Need-same-length
 same-length c = search needs
 
 returns-2 : tie.Need-returns-2
-returns-2 c = writes-room (now (c .before .args .s)) (c .before .args .sub ∷ []) _ (c .if1 .left) refl
+returns-2 c = writes-room (now (c .before .args .buffer)) (c .before .args .sub ∷ []) _ (c .if1 .left) refl
 
 pub write-alone-spec : {M : Type 1} → statement M
-write-alone-spec = tie.close (tie.spec returns slice-write-s same-length returns-2)
+write-alone-spec = tie.close (tie.spec returns slice-write-buffer same-length returns-2)

@@ -8,20 +8,20 @@ use Rattle.codec.proofs.writer.write_with_byte.Statement.{statement}
 use Rattle.codec.proofs.writer.write_with_byte.Tie as tie
 
 returns : tie.Need-returns
-returns c = writes-none (now (c .before .args .s)) (c .before .args .sub ∷ c .before .args .v ∷ []) (c .if1 .taken)
+returns c = writes-none (now (c .before .args .buffer)) (c .before .args .sub ∷ c .before .args .value ∷ []) (c .if1 .taken)
 
-slice-write-s : tie.Need-slice-write-s
-slice-write-s c = search needs
+slice-write-buffer : tie.Need-slice-write-buffer
+slice-write-buffer c = search needs
 
-slice-write-s-2 : tie.Need-slice-write-s-2
-slice-write-s-2 c = search needs
+slice-write-buffer-2 : tie.Need-slice-write-buffer-2
+slice-write-buffer-2 c = search needs
 
 same-length : tie.Need-same-length
 same-length c = search needs
 
 returns-2 : tie.Need-returns-2
-returns-2 c = writes-room (now (c .before .args .s)) (c .before .args .sub ∷ c .before .args .v ∷ []) _ (c .if1 .left) refl
+returns-2 c = writes-room (now (c .before .args .buffer)) (c .before .args .sub ∷ c .before .args .value ∷ []) _ (c .if1 .left) refl
 
 pub write-with-byte-spec : {M : Type 1} → statement M
 write-with-byte-spec =
-    tie.close (tie.spec returns slice-write-s slice-write-s-2 same-length returns-2)
+    tie.close (tie.spec returns slice-write-buffer slice-write-buffer-2 same-length returns-2)

@@ -3,7 +3,7 @@ use mathlib.Core.Path.{refl, sym, ap, _∙_}
 use Rattle.codec.specs.Refusals.{outcomeNumber}
 use Rattle.families.specs.Ack.{readAck}
 use Rattle.families.proofs.Answered.{ack-some}
-use Rattle.commands.specs.Reading.{keptAck}
+use Rattle.commands.specs.Reading.{ackWithStored}
 use Rattle.commands.proofs.Answers.{ackCommand, ack-got}
 use Rattle.commands.proofs.KindLaws.{kind-got, kind-refused}
 use borrow.Author.Needs.{needs}
@@ -20,10 +20,10 @@ enum-known-outcome : tie.Need-enum-known-outcome
 enum-known-outcome c = search needs
 
 returns : tie.Need-returns
-returns c = kind-got (ackCommand 0 0 (c .before .before .before .read .result)) (readAck _) keptAck (ack-some _) refl (ack-got 0 0 _ (c .before .before .before .read .result) (c .before .before .before .read .ensures) (c .enum-told .given .1))
+returns c = kind-got (ackCommand 0 0 (c .before .before .before .read .result)) (readAck _) ackWithStored (ack-some _) refl (ack-got 0 0 _ (c .before .before .before .read .result) (c .before .before .before .read .ensures) (c .enum-told .given .1))
 
 returns-2 : tie.Need-returns-2
-returns-2 c = kind-refused (readAck _) keptAck (c .before .outcome .given .0 .0) (ack-some _) (sym (ap outcomeNumber (c .before .outcome .given .1)) ∙ c .before .before .before .before .read .ensures .0)
+returns-2 c = kind-refused (readAck _) ackWithStored (c .before .outcome .given .0 .0) (ack-some _) (sym (ap outcomeNumber (c .before .outcome .given .1)) ∙ c .before .before .before .before .read .ensures .0)
 
 pub of-ack-spec : {M : Type 1} → statement M
 of-ack-spec = tie.close (tie.spec read-requires enum-told enum-known-outcome returns returns-2)

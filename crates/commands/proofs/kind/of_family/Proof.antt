@@ -20,7 +20,7 @@ use Rattle.families.specs.declared.crossfire.CrossfireCommand.{CrossfireCommand
 use Rattle.families.specs.declared.flow_control.FlowControlCommand.{FlowControlCommand}
 use Rattle.families.specs.declared.payload.CommandPayload.the-variants.{Fc, Osd, Vtx, Led, General, Crossfire, FlowControl}
 use Rattle.families.proofs.Inverse.{fc-of, osd-of, vtx-of, led-of, general-of, crossfire-of, flow-of}
-use Rattle.commands.specs.Reading.{keptScreen, keptAck}
+use Rattle.commands.specs.Reading.{screenWithStored, ackWithStored}
 use Rattle.commands.proofs.KindLaws.{plain-kind, plain-none, kind-from}
 use borrow.Author.Needs.{needs}
 use Rattle.commands.proofs.kind.of_family.Statement.{statement}
@@ -159,10 +159,10 @@ returns-14 : tie.Need-returns-14
 returns-14 c = rw (c .before .before .before .before .match .keys7) (plain-none flowRows (λ b. FlowControl (flowOf b)) _ _ 0 (rw (c .before .r7 .given .1) at (c .before .before .before .read7 .ensures)))
 
 returns-15 : tie.Need-returns-15
-returns-15 c = rw (c .before .match .keys8) (c .of-screen .ensures ∙ kind-from (readScreen _) keptScreen)
+returns-15 c = rw (c .before .match .keys8) (c .of-screen .ensures ∙ kind-from (readScreen _) screenWithStored)
 
 returns-16 : tie.Need-returns-16
-returns-16 c = rw (c .before .match .keys9) (c .of-ack .ensures ∙ kind-from (readAck _) keptAck)
+returns-16 c = rw (c .before .match .keys9) (c .of-ack .ensures ∙ kind-from (readAck _) ackWithStored)
 
 returns-17 : tie.Need-returns-17
 returns-17 c = rw (c .match .keys10)

@@ -2,7 +2,7 @@
 use mathlib.Core.Path.{sym, ap, _∙_}
 use Rattle.codec.specs.Refusals.{outcomeNumber}
 use Rattle.families.specs.Ack.{readAck}
-use Rattle.commands.specs.Reading.{keptAck}
+use Rattle.commands.specs.Reading.{ackWithStored}
 use Rattle.commands.proofs.Answers.{ack-got, turned-away}
 use borrow.Author.Needs.{needs}
 use Rattle.commands.proofs.reading.read_ack.Statement.{statement}
@@ -24,7 +24,7 @@ returns : tie.Need-returns
 returns c = ack-got _ _ _ (c .before .before .before .before .read .result) (c .before .before .before .before .read .ensures) (c .enum-told .given .1)
 
 returns-2 : tie.Need-returns-2
-returns-2 c = turned-away (c .refused-with .result) (readAck _) keptAck _ _ (c .before .before .outcome .given .0 .0) (sym (ap outcomeNumber (c .before .before .outcome .given .1)) ∙ c .before .before .before .before .before .before .read .ensures .0) (c .refused-with .ensures)
+returns-2 c = turned-away (c .refused-with .result) (readAck _) ackWithStored _ _ (c .before .before .outcome .given .0 .0) (sym (ap outcomeNumber (c .before .before .outcome .given .1)) ∙ c .before .before .before .before .before .before .read .ensures .0) (c .refused-with .ensures)
 
 pub read-ack-spec : {M : Type 1} → statement M
 read-ack-spec =

@@ -11,10 +11,10 @@ use Rattle.edits.proofs.applying.apply_each.Statement.{statement}
 use Rattle.edits.proofs.applying.apply_each.Tie as tie
 
 abbrev Inv-loop : tie.InvT-loop
-Inv-loop payload₀ sheet edits answers₀ count i₀ payload answers i = (i ≤ count) × ((length payload ≡ length payload₀) × ((length answers ≡ length answers₀) × (Opened payload sheet × Turns edits count payload₀ answers₀ payload answers i)))
+Inv-loop payload₀ layout edits answers₀ count i₀ payload answers i = (i ≤ count) × ((length payload ≡ length payload₀) × ((length answers ≡ length answers₀) × (Opened payload layout × Turns edits count payload₀ answers₀ payload answers i)))
 
 abbrev μ-loop : tie.MeasureT-loop
-μ-loop payload₀ sheet edits answers₀ count i₀ payload answers i = count - i
+μ-loop payload₀ layout edits answers₀ count i₀ payload answers i = count - i
 
 loop-holds : tie.Need-loop-holds Inv-loop μ-loop
 loop-holds c = (omega arith, (refl, (refl, (c .before .before .before .pre .0, turns-start (now (c .before .before .before .args .edits)) (c .before .before .before .args .count) (now (c .before .before .before .args .payload)) (now (c .before .before .before .args .answers))))))

@@ -35,11 +35,11 @@ slice-read-s c =
     let o = c .before .before .before .before in
     lt-length-set (now (o .args .s)) (o .args .at) _ (omega (arith, o .pre .0))
 
-sub-followed : tie.Need-sub-followed
-sub-followed c = search needs
+sub-check-with-zeros : tie.Need-sub-check-with-zeros
+sub-check-with-zeros c = search needs
 
-followed-requires : tie.Need-followed-requires
-followed-requires c κs = search needs
+check-with-zeros-requires : tie.Need-check-with-zeros-requires
+check-with-zeros-requires c κs = search needs
 
 slice-write-s-2 : tie.Need-slice-write-s-2
 slice-write-s-2 c =
@@ -52,7 +52,7 @@ same-length c = search needs
 returns : tie.Need-returns
 returns c =
     let o = c .before .before .before .before .before in
-    check-byte (now (o .args .s)) (o .args .at) (o .args .unit) (o .args .many) (o .args .n) _ _ (c .before .before .before .before .slice-known .given (o .args .at) .fits) (o .pre .0) (c .before .before .replace .ensures) (c .followed .ensures)
+    check-byte (now (o .args .s)) (o .args .at) (o .args .unit) (o .args .many) (o .args .n) _ _ (c .before .before .before .before .slice-known .given (o .args .at) .fits) (o .pre .0) (c .before .before .replace .ensures) (c .check-with-zeros .ensures)
 
 pub change-byte-spec : {M : Type 1} → statement M
 change-byte-spec =
@@ -65,8 +65,8 @@ change-byte-spec =
     cast-y
     slice-write-s
     slice-read-s
-    sub-followed
-    followed-requires
+    sub-check-with-zeros
+    check-with-zeros-requires
     slice-write-s-2
     same-length
     returns)

@@ -41,11 +41,11 @@ check-requires-2 c κs = search needs
 slice-read-s : tie.Need-slice-read-s
 slice-read-s c = search needs
 
-sub-followed : tie.Need-sub-followed
-sub-followed c = search needs
+sub-check-with-zeros : tie.Need-sub-check-with-zeros
+sub-check-with-zeros c = search needs
 
-followed-requires : tie.Need-followed-requires
-followed-requires c κs = search needs
+check-with-zeros-requires : tie.Need-check-with-zeros-requires
+check-with-zeros-requires c κs = search needs
 
 slice-write-s : tie.Need-slice-write-s
 slice-write-s c = search needs
@@ -56,7 +56,7 @@ same-length c = search needs
 returns : tie.Need-returns
 returns c =
     let o = c .before .before .before .before .before .before .before .before .before .before .before .before .before in
-    check-put (now (o .args .s)) _ (o .args .at) (o .args .w) _ _ _ _ _ _ (o .pre .1 .1 .0) (c .before .before .before .before .before .before .before .put-field .ensures) (c .before .before .before .before .before .before .before .before .before .check .ensures) (c .before .before .check2 .ensures) (c .followed .ensures)
+    check-put (now (o .args .s)) _ (o .args .at) (o .args .w) _ _ _ _ _ _ (o .pre .1 .1 .0) (c .before .before .before .before .before .before .before .put-field .ensures) (c .before .before .before .before .before .before .before .before .before .check .ensures) (c .before .before .check2 .ensures) (c .check-with-zeros .ensures)
 
 pub change-bytes-spec : {M : Type 1} → statement M
 change-bytes-spec =
@@ -74,8 +74,8 @@ change-bytes-spec =
     part-check-end-2
     check-requires-2
     slice-read-s
-    sub-followed
-    followed-requires
+    sub-check-with-zeros
+    check-with-zeros-requires
     slice-write-s
     same-length
     returns)

@@ -2,7 +2,7 @@
 use mathlib.Core.Path.{sym, _∙_}
 use native.Mathlib.Omega.{arith}
 use Rattle.families.specs.Sizes.{Sized, Ranged}
-use Rattle.families.proofs.Judged.{head-short, chosen-short, values-short, stop-sizes, judged-made}
+use Rattle.families.proofs.Judged.{head-short, selection-short, values-short, stop-sizes, judged-made}
 use borrow.Author.Needs.{needs}
 use Rattle.families.proofs.fields.judge.Statement.{statement}
 use Rattle.families.proofs.fields.judge.Tie as tie
@@ -17,7 +17,7 @@ add-judge-sizes-2 : tie.Need-add-judge-sizes-2
 add-judge-sizes-2 c = let h = head-short (c .before .before .args .f) (sym (c .before .texts-made .ensures) ∙ c .if1 .taken) in omega (arith, h .0, h .1)
 
 judge-sizes-requires : tie.Need-judge-sizes-requires
-judge-sizes-requires c κs = let m = sym (c .before .texts-made .ensures) ∙ c .if1 .taken in let h = head-short (c .before .before .args .f) m in (omega (arith, h .0, h .1), (chosen-short (c .before .before .args .f) m, values-short (c .before .before .args .f) m))
+judge-sizes-requires c κs = let m = sym (c .before .texts-made .ensures) ∙ c .if1 .taken in let h = head-short (c .before .before .args .f) m in (omega (arith, h .0, h .1), (selection-short (c .before .before .args .f) m, values-short (c .before .before .args .f) m))
 
 returns : tie.Need-returns
 returns c = let f = c .before .before .before .args .f in let m = sym (c .before .before .texts-made .ensures) ∙ c .before .if1 .taken in

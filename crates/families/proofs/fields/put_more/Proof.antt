@@ -23,8 +23,8 @@ add-result c = search needs
 enum-told-3 : tie.Need-enum-told-3
 enum-told-3 c = search needs
 
-put-chosen-requires : tie.Need-put-chosen-requires
-put-chosen-requires c κs = let e = size-is (c .before .before .before .before .args .f) (c .before .before .before .before .args .f .«additional_data») Selection (c .before .enum-told3 .given .1) in (c .before .before .before .before .pre .0 (c .before .enum-told3 .given .1), omega (arith, e, c .before .before .before .before .pre .1))
+put-selection-requires : tie.Need-put-selection-requires
+put-selection-requires c κs = let e = size-is (c .before .before .before .before .args .f) (c .before .before .before .before .args .f .«additional_data») Selection (c .before .enum-told3 .given .1) in (c .before .before .before .before .pre .0 (c .before .enum-told3 .given .1), omega (arith, e, c .before .before .before .before .pre .1))
 
 returns : tie.Need-returns
 returns c = more-is (c .before .before .before .args .f) (c .before .before .before .args .f .«additional_data») Absent (c .enum-told .given .1) (now (c .before .before .before .args .s)) (now (c .before .before .before .args .s)) (c .before .before .before .args .at) (c .before .before .before .args .at) (refl, omega arith)
@@ -39,7 +39,7 @@ same-length-2 : tie.Need-same-length-2
 same-length-2 c = search needs
 
 returns-3 : tie.Need-returns-3
-returns-3 c = more-is (c .before .before .before .before .before .before .before .args .f) (c .before .before .before .before .before .before .before .args .f .«additional_data») Selection (c .before .before .before .before .enum-told3 .given .1) (now (c .before .before .before .before .before .before .before .args .s)) _ (c .before .before .before .before .before .before .before .args .at) _ (c .before .before .put-chosen .ensures)
+returns-3 c = more-is (c .before .before .before .before .before .before .before .args .f) (c .before .before .before .before .before .before .before .args .f .«additional_data») Selection (c .before .before .before .before .enum-told3 .given .1) (now (c .before .before .before .before .before .before .before .args .s)) _ (c .before .before .before .before .before .before .before .args .at) _ (c .before .before .put-selection .ensures)
 
 pub put-more-spec : {M : Type 1} → statement M
 put-more-spec =
@@ -50,7 +50,7 @@ put-more-spec =
     slice-write-s
     add-result
     enum-told-3
-    put-chosen-requires
+    put-selection-requires
     returns
     same-length
     returns-2

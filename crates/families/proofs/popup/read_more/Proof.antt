@@ -23,8 +23,8 @@ no-more-requires-2 c κs = search needs
 returns-2 : tie.Need-returns-2
 returns-2 c = more-empty-is (now (c .before .before .before .before .before .args .s)) (c .before .before .before .before .before .args .at) _ (c .no-more2 .ensures) (c .before .before .before .if1 .left) (c .before .if2 .taken)
 
-read-chosen-requires : tie.Need-read-chosen-requires
-read-chosen-requires c κs = search needs
+read-selection-requires : tie.Need-read-selection-requires
+read-selection-requires c κs = search needs
 
 returns-3 : tie.Need-returns-3
 returns-3 c = search needs
@@ -39,5 +39,5 @@ read-more-spec =
     add-no-more
     no-more-requires-2
     returns-2
-    read-chosen-requires
+    read-selection-requires
     returns-3)

@@ -29,8 +29,8 @@ popup-of-requires c κs = let x = places-from (now (c .before .before .before .b
 enum-known-n : tie.Need-enum-known-n
 enum-known-n c = search needs
 
-refusal-requires : tie.Need-refusal-requires
-refusal-requires c κs = search needs
+refused-with-requires : tie.Need-refused-with-requires
+refused-with-requires c κs = search needs
 
 read-number-requires-2 : tie.Need-read-number-requires-2
 read-number-requires-2 c κs = search needs
@@ -53,23 +53,23 @@ return-of-requires c κs = search needs
 enum-known-n-2 : tie.Need-enum-known-n-2
 enum-known-n-2 c = search needs
 
-refusal-requires-2 : tie.Need-refusal-requires-2
-refusal-requires-2 c κs = search needs
+refused-with-requires-2 : tie.Need-refused-with-requires-2
+refused-with-requires-2 c κs = search needs
 
 enum-known-n-3 : tie.Need-enum-known-n-3
 enum-known-n-3 c = search needs
 
-refusal-requires-3 : tie.Need-refusal-requires-3
-refusal-requires-3 c κs = search needs
+refused-with-requires-3 : tie.Need-refused-with-requires-3
+refused-with-requires-3 c κs = search needs
 
-refusal-requires-4 : tie.Need-refusal-requires-4
-refusal-requires-4 c κs = search needs
+refused-with-requires-4 : tie.Need-refused-with-requires-4
+refused-with-requires-4 c κs = search needs
 
 enum-known-n-4 : tie.Need-enum-known-n-4
 enum-known-n-4 c = search needs
 
-refusal-requires-5 : tie.Need-refusal-requires-5
-refusal-requires-5 c κs = search needs
+refused-with-requires-5 : tie.Need-refused-with-requires-5
+refused-with-requires-5 c κs = search needs
 
 returns : tie.Need-returns
 returns c = let s = now (c .before .before .before .before .before .before .before .before .before .before .before .before .args .body) in
@@ -81,7 +81,7 @@ returns-2 : tie.Need-returns-2
 returns-2 c = let s = now (c .before .before .before .before .before .before .before .before .before .before .before .args .body) in
     let x = byte-got s 0 _ _ (c .before .before .before .before .before .before .before .sub .given .1) (c .before .before .before .before .before .before .before .before .before .read-number .ensures) in
     let y = places-refused s 1 _ _ (c .before .before .n .given .1) (c .before .before .before .before .parse .ensures .0) in
-    is-by _ _ (c .refusal .result) (screen-popup-not s _ _ _ x (c .before .before .before .before .before .match2 .keys1) y) (c .refusal .ensures)
+    is-by _ _ (c .refused-with .result) (screen-popup-not s _ _ _ x (c .before .before .before .before .before .match2 .keys1) y) (c .refused-with .ensures)
 
 returns-3 : tie.Need-returns-3
 returns-3 c = let s = now (c .before .before .before .before .before .before .before .before .before .before .before .before .before .before .before .args .body) in
@@ -95,24 +95,24 @@ returns-4 c = let s = now (c .before .before .before .before .before .before .be
     let x = byte-got s 0 _ _ (c .before .before .before .before .before .before .before .before .before .before .before .sub .given .1) (c .before .before .before .before .before .before .before .before .before .before .before .before .before .read-number .ensures) in
     let y = byte-got s 1 _ _ (c .before .before .before .before .before .before .v .given .1) (c .before .before .before .before .before .before .before .before .read-number2 .ensures) in
     let z = flag-not s 2 _ _ (c .before .before .n2 .given .1) (c .before .before .before .before .read-flag .ensures) in
-    is-by _ _ (c .refusal2 .result) (screen-response-not s _ _ _ _ x (c .before .before .before .before .before .before .before .before .before .match2 .keys2) y z) (c .refusal2 .ensures)
+    is-by _ _ (c .refused-with2 .result) (screen-response-not s _ _ _ _ x (c .before .before .before .before .before .before .before .before .before .match2 .keys2) y z) (c .refused-with2 .ensures)
 
 returns-5 : tie.Need-returns-5
 returns-5 c = let s = now (c .before .before .before .before .before .before .before .before .before .before .before .args .body) in
     let x = byte-got s 0 _ _ (c .before .before .before .before .before .before .before .sub .given .1) (c .before .before .before .before .before .before .before .before .before .read-number .ensures) in
     let y = byte-not s 1 _ _ (c .before .before .n3 .given .1) (c .before .before .before .before .read-number2 .ensures .0) in
-    is-by _ _ (c .refusal3 .result) (screen-value-not s _ _ _ x (c .before .before .before .before .before .match2 .keys2) y) (c .refusal3 .ensures)
+    is-by _ _ (c .refused-with3 .result) (screen-value-not s _ _ _ x (c .before .before .before .before .before .match2 .keys2) y) (c .refused-with3 .ensures)
 
 returns-6 : tie.Need-returns-6
 returns-6 c = let s = now (c .before .before .before .before .before .before .before .args .body) in
     let k = c .before .match2 .rest in
     let x = byte-got s 0 _ _ (c .before .before .before .sub .given .1) (c .before .before .before .before .before .read-number .ensures) in
-    is-by _ _ (c .refusal4 .result) (screen-other s _ x (k .0 .1) (k .1)) (c .refusal4 .ensures)
+    is-by _ _ (c .refused-with4 .result) (screen-other s _ x (k .0 .1) (k .1)) (c .refused-with4 .ensures)
 
 returns-7 : tie.Need-returns-7
 returns-7 c = let s = now (c .before .before .before .before .before .before .args .body) in
     let y = byte-not s 0 _ _ (c .before .before .n4 .given .1) (c .before .before .before .before .read-number .ensures .0) in
-    is-by _ _ (c .refusal5 .result) (screen-none s _ _ y) (c .refusal5 .ensures)
+    is-by _ _ (c .refused-with5 .result) (screen-none s _ _ y) (c .refused-with5 .ensures)
 
 pub read-spec : {M : Type 1} → statement M
 read-spec =
@@ -125,7 +125,7 @@ read-spec =
     sub-popup-of
     popup-of-requires
     enum-known-n
-    refusal-requires
+    refused-with-requires
     read-number-requires-2
     enum-known-v
     read-flag-requires
@@ -133,12 +133,12 @@ read-spec =
     cast-return-of
     return-of-requires
     enum-known-n-2
-    refusal-requires-2
+    refused-with-requires-2
     enum-known-n-3
-    refusal-requires-3
-    refusal-requires-4
+    refused-with-requires-3
+    refused-with-requires-4
     enum-known-n-4
-    refusal-requires-5
+    refused-with-requires-5
     returns
     returns-2
     returns-3

@@ -21,8 +21,8 @@ returns c = let x = places-from (now (c .before .before .before .before .before 
 fields-at-requires : tie.Need-fields-at-requires
 fields-at-requires c κs = places-from (now (c .before .before .before .before .before .before .before .args .s)) 0 (c .before .before .before .p .given .0 .0) _ (c .before .before .before .p .given .1) (c .before .before .before .before .before .parse .ensures) .1 .1
 
-enum-known-n : tie.Need-enum-known-n
-enum-known-n c = search needs
+enum-told : tie.Need-enum-told
+enum-told c = search needs
 
 not-made-requires-2 : tie.Need-not-made-requires-2
 not-made-requires-2 c κs = search needs
@@ -31,7 +31,7 @@ returns-2 : tie.Need-returns-2
 returns-2 c = let x = places-from (now (c .before .before .before .before .before .before .before .before .args .s)) 0 (c .before .before .before .before .p .given .0 .0) _ (c .before .before .before .before .p .given .1) (c .before .before .before .before .before .before .parse .ensures) in rw (whole-there (now (c .before .before .before .before .before .before .before .before .args .s)) _ _ (x .0) (x .1 .0) (c .before .if1 .left)) (refl, c .fields-at .ensures)
 
 returns-3 : tie.Need-returns-3
-returns-3 c = fields-of _ _ (c .not-made2 .result) (whole-none (now (c .before .before .before .before .before .before .args .s)) _ _ (places-refused (now (c .before .before .before .before .before .before .args .s)) 0 _ _ (c .before .before .n .given .1) (c .before .before .before .before .parse .ensures .0))) (c .not-made2 .ensures)
+returns-3 c = fields-of _ _ (c .not-made2 .result) (whole-none (now (c .before .before .before .before .before .args .s)) _ _ (places-refused (now (c .before .before .before .before .before .args .s)) 0 _ _ (c .before .enum-told .given .1) (c .before .before .before .parse .ensures .0))) (c .not-made2 .ensures)
 
 pub whole-fields-spec : {M : Type 1} → statement M
 whole-fields-spec =
@@ -42,7 +42,7 @@ whole-fields-spec =
     not-made-requires
     returns
     fields-at-requires
-    enum-known-n
+    enum-told
     not-made-requires-2
     returns-2
     returns-3)

@@ -11,14 +11,14 @@ parse-requires c κs = search needs
 enum-known-p : tie.Need-enum-known-p
 enum-known-p c = search needs
 
-enum-known-r : tie.Need-enum-known-r
-enum-known-r c = search needs
+enum-told : tie.Need-enum-told
+enum-told c = search needs
 
 returns : tie.Need-returns
 returns c = let x = places-from (now (c .before .before .before .before .before .before .args .s)) 0 (c .before .before .p .given .0 .0) _ (c .before .before .p .given .1) (c .before .before .before .before .parse .ensures) in whole-is (now (c .before .before .before .before .before .before .args .s)) (c .before .before .before .before .before .before .args .n) _ _ (x .0) (x .1 .0)
 
 returns-2 : tie.Need-returns-2
-returns-2 c = whole-not (now (c .before .before .before .before .before .args .s)) (c .before .before .before .before .before .args .n) _ _ (places-refused (now (c .before .before .before .before .before .args .s)) 0 _ _ (c .before .r .given .1) (c .before .before .before .parse .ensures .0))
+returns-2 c = whole-not (now (c .before .before .before .before .args .s)) (c .before .before .before .before .args .n) _ _ (places-refused (now (c .before .before .before .before .args .s)) 0 _ _ (c .enum-told .given .1) (c .before .before .parse .ensures .0))
 
 pub whole-popup-spec : {M : Type 1} → statement M
-whole-popup-spec = tie.close (tie.spec parse-requires enum-known-p enum-known-r returns returns-2)
+whole-popup-spec = tie.close (tie.spec parse-requires enum-known-p enum-told returns returns-2)

@@ -16,7 +16,7 @@ all-nonzero-requires : tie.Need-all-nonzero-requires
 all-nonzero-requires c κs = search needs
 
 returns-2 : tie.Need-returns-2
-returns-2 c = c .all-nonzero .ensures ∙ sym (made-short (c .before .before .before .before .args .most) (c .before .before .before .before .args .n) (now (c .before .before .before .before .args .s)) (c .before .before .if1 .left) (c .before .if2 .taken))
+returns-2 c = c .all-nonzero .ensures ∙ sym (made-short (c .before .before .before .before .args .most) (c .before .before .before .before .args .len) (now (c .before .before .before .before .args .bytes)) (c .before .before .if1 .left) (c .before .if2 .taken))
 
 slice-aggregate-all-nonzero : tie.Need-slice-aggregate-all-nonzero
 slice-aggregate-all-nonzero c = sym (length-take-le _ _ (omega arith))

@@ -4,9 +4,10 @@ use native.Mathlib.Omega.{arith}
 use lib.ListN.{length, set}
 use lib.Seq.{length-take-le}
 use denote.Ref.{now}
+use Rattle.families.proofs.PutFields.{set-in}
 use Rattle.images.specs.Ack.{ackImage}
 use Rattle.images.proofs.TextLaws.{front-not, put-kept}
-use Rattle.images.proofs.AckLaws.{ack-size, ack-put, next-in, rest-in}
+use Rattle.images.proofs.AckLaws.{ack-size, ack-put, rest-in}
 use borrow.Author.Needs.{needs}
 use Rattle.images.proofs.ack.put.Statement.{statement}
 use Rattle.images.proofs.ack.put.Tie as tie
@@ -18,10 +19,10 @@ slice-write-out : tie.Need-slice-write-out
 slice-write-out c = search needs
 
 slice-write-out-2 : tie.Need-slice-write-out-2
-slice-write-out-2 c = next-in (now (c .before .before .before .args .out)) 0 (c .before .before .before .args .a .ack .«command_id») 1 (omega arith)
+slice-write-out-2 c = set-in (now (c .before .before .before .args .out)) 0 (c .before .before .before .args .a .ack .«command_id») 1 (omega arith)
 
 slice-write-out-3 : tie.Need-slice-write-out-3
-slice-write-out-3 c = next-in (set (now (c .before .before .before .args .out)) 0 (c .before .before .before .args .a .ack .«command_id»)) 1 (c .before .before .before .args .a .ack .«sub_command_id») 2 (next-in (now (c .before .before .before .args .out)) 0 (c .before .before .before .args .a .ack .«command_id») 2 (omega arith))
+slice-write-out-3 c = set-in (set (now (c .before .before .before .args .out)) 0 (c .before .before .before .args .a .ack .«command_id»)) 1 (c .before .before .before .args .a .ack .«sub_command_id») 2 (set-in (now (c .before .before .before .args .out)) 0 (c .before .before .before .args .a .ack .«command_id») 2 (omega arith))
 
 array-share-prefix-b : tie.Need-array-share-prefix-b
 array-share-prefix-b c = let l : length (c .before .before .before .before .args .a .bytes) ≡ 55 = search needs in omega arith

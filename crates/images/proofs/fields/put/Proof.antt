@@ -9,11 +9,11 @@ use Rattle.images.proofs.fields.put.Statement.{statement}
 use Rattle.images.proofs.fields.put.Tie as tie
 use Rattle.images.proofs.fields.put.Reads as reads
 use Rattle.images.proofs.fields.put.Lts as lts
-use Rattle.images.proofs.fields.put_chosen.Reads as put-chosen-reads
 use Rattle.images.proofs.fields.put_head.Reads as put-head-reads
+use Rattle.images.proofs.fields.put_selection.Reads as put-selection-reads
 use Rattle.images.proofs.fields.put_values.Reads as put-values-reads
 
-fit : (c : lts.Start (put-head-reads.Asked, put-head-reads.Learnt, put-chosen-reads.Asked, put-chosen-reads.Learnt, put-values-reads.Asked, put-values-reads.Learnt) reads.Pre reads.Post)
+fit : (c : lts.Start (put-head-reads.Asked, put-head-reads.Learnt, put-selection-reads.Asked, put-selection-reads.Learnt, put-values-reads.Asked, put-values-reads.Learnt) reads.Pre reads.Post)
     → Sized (c .args .f)
 fit c = (search needs, (search needs, (search needs, (search needs, search needs))))
 
@@ -23,8 +23,8 @@ returns c = front-not (now (c .before .before .args .out)) (fieldsImage (c .befo
 put-head-requires : tie.Need-put-head-requires
 put-head-requires c κs = search needs
 
-put-chosen-requires : tie.Need-put-chosen-requires
-put-chosen-requires c κs = search needs
+put-selection-requires : tie.Need-put-selection-requires
+put-selection-requires c κs = search needs
 
 put-values-requires : tie.Need-put-values-requires
 put-values-requires c κs = search needs
@@ -33,7 +33,7 @@ same-length : tie.Need-same-length
 same-length c = search needs
 
 returns-2 : tie.Need-returns-2
-returns-2 c = all-put (c .before .before .before .before .before .before .before .before .before .before .before .before .before .before .before .before .before .before .before .args .f) (fit (c .before .before .before .before .before .before .before .before .before .before .before .before .before .before .before .before .before .before .before)) (now (c .before .before .before .before .before .before .before .before .before .before .before .before .before .before .before .before .before .before .before .args .out)) (c .before .before .before .before .before .before .before .before .before .before .before .before .before .put-head .last .0) (c .before .before .before .before .before .before .before .put-chosen .last .0) _ (c .before .before .before .before .before .before .before .before .before .before .before .before .before .before .before .before .before .if1 .left) (c .before .before .before .before .before .before .before .before .before .before .before .before .before .put-head .ensures) (c .before .before .before .before .before .before .before .put-chosen .ensures) (c .before .before .put-values .ensures)
+returns-2 c = all-put (c .before .before .before .before .before .before .before .before .before .before .before .before .before .before .before .before .before .before .before .args .f) (fit (c .before .before .before .before .before .before .before .before .before .before .before .before .before .before .before .before .before .before .before)) (now (c .before .before .before .before .before .before .before .before .before .before .before .before .before .before .before .before .before .before .before .args .out)) (c .before .before .before .before .before .before .before .before .before .before .before .before .before .put-head .last .0) (c .before .before .before .before .before .before .before .put-selection .last .0) _ (c .before .before .before .before .before .before .before .before .before .before .before .before .before .before .before .before .before .if1 .left) (c .before .before .before .before .before .before .before .before .before .before .before .before .before .put-head .ensures) (c .before .before .before .before .before .before .before .put-selection .ensures) (c .before .before .put-values .ensures)
 
 pub put-spec : {M : Type 1} → statement M
 put-spec =
@@ -41,7 +41,7 @@ put-spec =
     (tie.spec
     returns
     put-head-requires
-    put-chosen-requires
+    put-selection-requires
     put-values-requires
     same-length
     returns-2)

@@ -3,9 +3,9 @@ use mathlib.Core.Path.{_≡_, ap, _∙_}
 use native.Mathlib.Omega.{arith}
 use lib.ListN.{length, set}
 use denote.Ref.{now}
+use Rattle.families.proofs.PutFields.{set-in}
 use Rattle.images.specs.Record.{recordImage}
 use Rattle.images.proofs.TextLaws.{front-not, put-kept}
-use Rattle.images.proofs.AckLaws.{next-in}
 use Rattle.images.proofs.RecordLaws.{laid-size, record-size, rest-room, record-put}
 use borrow.Author.Needs.{needs}
 use Rattle.images.proofs.record.put.Statement.{statement}
@@ -21,13 +21,13 @@ slice-write-out : tie.Need-slice-write-out
 slice-write-out c = search needs
 
 slice-write-out-2 : tie.Need-slice-write-out-2
-slice-write-out-2 c = next-in (now (c .before .before .before .before .args .out)) 0 (c .before .before .before .before .args .command .«dst_addr») 1 (omega arith)
+slice-write-out-2 c = set-in (now (c .before .before .before .before .args .out)) 0 (c .before .before .before .before .args .command .«dst_addr») 1 (omega arith)
 
 command-id-requires : tie.Need-command-id-requires
 command-id-requires c κs = search needs
 
 slice-write-out-3 : tie.Need-slice-write-out-3
-slice-write-out-3 c = next-in (set (now (c .before .before .before .before .before .args .out)) 0 (c .before .before .before .before .before .args .command .«dst_addr»)) 1 (c .before .before .before .before .before .args .command .«src_addr») 2 (next-in (now (c .before .before .before .before .before .args .out)) 0 (c .before .before .before .before .before .args .command .«dst_addr») 2 (omega arith))
+slice-write-out-3 c = set-in (set (now (c .before .before .before .before .before .args .out)) 0 (c .before .before .before .before .before .args .command .«dst_addr»)) 1 (c .before .before .before .before .before .args .command .«src_addr») 2 (set-in (now (c .before .before .before .before .before .args .out)) 0 (c .before .before .before .before .before .args .command .«dst_addr») 2 (omega arith))
 
 slice-aggregate-put-bytes : tie.Need-slice-aggregate-put-bytes
 slice-aggregate-put-bytes c = search needs

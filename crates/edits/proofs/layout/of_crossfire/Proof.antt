@@ -1,0 +1,129 @@
+-- `layout::of_crossfire` meets its contract. Assumes nothing.
+use borrow.Author.Needs.{needs}
+use Rattle.edits.proofs.layout.of_crossfire.Statement.{statement}
+use Rattle.edits.proofs.layout.of_crossfire.Tie as tie
+
+enum-told : tie.Need-enum-told
+enum-told c = search needs
+
+alone-requires : tie.Need-alone-requires
+alone-requires c κs = search needs
+
+enum-told-2 : tie.Need-enum-told-2
+enum-told-2 c = search needs
+
+alone-requires-2 : tie.Need-alone-requires-2
+alone-requires-2 c κs = search needs
+
+enum-told-3 : tie.Need-enum-told-3
+enum-told-3 c = search needs
+
+alone-requires-3 : tie.Need-alone-requires-3
+alone-requires-3 c κs = search needs
+
+enum-told-4 : tie.Need-enum-told-4
+enum-told-4 c = search needs
+
+plain-requires : tie.Need-plain-requires
+plain-requires c κs = search needs
+
+enum-told-5 : tie.Need-enum-told-5
+enum-told-5 c = search needs
+
+alone-requires-4 : tie.Need-alone-requires-4
+alone-requires-4 c κs = search needs
+
+enum-told-6 : tie.Need-enum-told-6
+enum-told-6 c = search needs
+
+plain-requires-2 : tie.Need-plain-requires-2
+plain-requires-2 c κs = search needs
+
+enum-told-7 : tie.Need-enum-told-7
+enum-told-7 c = search needs
+
+alone-requires-5 : tie.Need-alone-requires-5
+alone-requires-5 c κs = search needs
+
+enum-told-8 : tie.Need-enum-told-8
+enum-told-8 c = search needs
+
+alone-requires-6 : tie.Need-alone-requires-6
+alone-requires-6 c κs = search needs
+
+enum-told-9 : tie.Need-enum-told-9
+enum-told-9 c = search needs
+
+alone-requires-7 : tie.Need-alone-requires-7
+alone-requires-7 c κs = search needs
+
+enum-told-10 : tie.Need-enum-told-10
+enum-told-10 c = search needs
+
+alone-requires-8 : tie.Need-alone-requires-8
+alone-requires-8 c κs = search needs
+
+returns : tie.Need-returns
+returns c = search needs
+
+returns-2 : tie.Need-returns-2
+returns-2 c = search needs
+
+returns-3 : tie.Need-returns-3
+returns-3 c = search needs
+
+returns-4 : tie.Need-returns-4
+returns-4 c = rw (c .before .enum-told4 .given .1) (c .plain .ensures)
+
+returns-5 : tie.Need-returns-5
+returns-5 c = search needs
+
+returns-6 : tie.Need-returns-6
+returns-6 c = rw (c .before .enum-told6 .given .1) (c .plain2 .ensures)
+
+returns-7 : tie.Need-returns-7
+returns-7 c = search needs
+
+returns-8 : tie.Need-returns-8
+returns-8 c = search needs
+
+returns-9 : tie.Need-returns-9
+returns-9 c = search needs
+
+returns-10 : tie.Need-returns-10
+returns-10 c = search needs
+
+pub of-crossfire-spec : {M : Type 1} → statement M
+of-crossfire-spec =
+    tie.close
+    (tie.spec
+    enum-told
+    alone-requires
+    enum-told-2
+    alone-requires-2
+    enum-told-3
+    alone-requires-3
+    enum-told-4
+    plain-requires
+    enum-told-5
+    alone-requires-4
+    enum-told-6
+    plain-requires-2
+    enum-told-7
+    alone-requires-5
+    enum-told-8
+    alone-requires-6
+    enum-told-9
+    alone-requires-7
+    enum-told-10
+    alone-requires-8
+    returns
+    returns-2
+    returns-3
+    returns-4
+    returns-5
+    returns-6
+    returns-7
+    returns-8
+    returns-9
+    returns-10)

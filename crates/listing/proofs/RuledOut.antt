@@ -1,0 +1,62 @@
+-- Wrong answers that the contracts of the public functions rule out: the definition that the contract names, worked out for an input
+-- where the wrong answer would be another. That no other answer is allowed there is in OneAnswer.antt. Assumes nothing.
+use Prim.Native.Nat.{ℕ}
+use mathlib.Core.List.{List, [], _∷_}
+use mathlib.Core.Path.{_≡_, refl}
+use lib.ListN.{length, replicate}
+use Rattle.codec.specs.Writing.{stopRoom}
+use Rattle.codec.specs.Told.{Writes}
+use Rattle.codec.specs.declared.refusal.Refusal.the-variants.{BufferOverflow, RecordNotMade}
+use Rattle.codec.specs.declared.writer.Written.{Written}
+use Rattle.codec.specs.declared.writer.Written.the-variants.{Refused as NotWritten}
+use Rattle.listing.specs.Text.{textOf}
+use Rattle.listing.specs.Step.{opened, stepOf, closing}
+use Rattle.listing.specs.declared.line.Line.{Line}
+use Rattle.listing.specs.declared.line.Line.the-variants.{Cut, End}
+use Rattle.listing.specs.declared.Listing.{Listing}
+use Rattle.listing.specs.declared.Listed.the-variants.{Line as Found, Nothing, Refused}
+
+-- ---- Listing::new
+-- the count starts at 0
+pub new-count : opened 0 0 .count ≡ 0
+new-count = refl
+
+-- and between records: an input that ends there is not cut
+pub new-between : closing (opened 0 0) ≡ Found (End 0)
+new-between = refl
+
+-- ---- Listing::next (and must-fail/count_stays)
+-- record 3, of so many bytes, so many of which have come
+abbrev inside : ℕ → ℕ → Listing
+inside wanted held = record { count = 3; wanted = wanted; held = held; bytes = replicate 60 0 }
+
+-- a record is not read across its end: one of no bytes ends behind its length byte
+pub next-stops : stepOf (opened 0 0) (0 ∷ 5 ∷ []) 0 .at ≡ 1
+next-stops = refl
+
+-- nor across the chunk's: two of its five bytes have come, and no line is given
+pub next-waits : stepOf (opened 3 0) (5 ∷ 8 ∷ 9 ∷ []) 0
+    ≡ record { state = record { count = 3; wanted = 5; held = 2; bytes = 8 ∷ 9 ∷ replicate 58 0 }; at = 3; listed = Nothing }
+next-waits = refl
+
+-- a state beyond its limits is not mended: more bytes held than wanted
+pub next-beyond : stepOf (inside 5 6) (1 ∷ []) 0 ≡ record { state = inside 5 6; at = 0; listed = Refused RecordNotMade }
+next-beyond = refl
+
+-- ---- Listing::finish
+-- an input that stops inside a record does not end
+pub finish-cut : closing (inside 5 2) ≡ Found (Cut 3)
+finish-cut = refl
+
+-- a state beyond its limits has no line
+pub finish-beyond : closing (inside 256 0) ≡ Refused RecordNotMade
+finish-beyond = refl
+
+-- ---- line::render (and must-fail/lower_case)
+-- its contract: this answer, with these bytes left of those
+abbrev Renders : Line → Written → List ℕ → List ℕ → Type 0
+Renders l r s s' = Writes (stopRoom (length s) (length (textOf l))) (textOf l) r s s'
+
+-- no line is half written: "end 0" and its end are 6 bytes
+pub render-no-room : Renders (End 0) (NotWritten BufferOverflow) (replicate 5 7) (replicate 5 7)
+render-no-room = (refl, refl)

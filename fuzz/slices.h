@@ -1,0 +1,215 @@
+/* Slices to call the functions of crsf.h with, drawn from a seed: valid ones, and ones near them. */
+#include <stdio.h>
+#include <stdlib.h>
+#include <string.h>
+
+#include "crsf.h"
+
+enum { LONGEST = 300, KINDS = 30 };
+
+/* What a slice holds. The last two are not const: a payload is changed in place, room is written from its front. */
+enum content { BYTES, FIELDS, POPUP_IMAGE, RECORD, PAYLOAD, EDITS, PAYLOAD_IN_PLACE, ROOM };
+
+/* NUMBERS AND BYTES */
+
+static uint64_t state; /* the seed, at first */
+static uint64_t next(void) /* splitmix64 */
+{
+    uint64_t z = state += 0x9E3779B97F4A7C15u;
+    z = (z ^ z >> 30) * 0xBF58476D1CE4E5B9u;
+    z = (z ^ z >> 27) * 0x94D049BB133111EBu;
+    return z ^ z >> 31;
+}
+static uint32_t below(uint32_t n) { return (uint32_t)(next() % n); }
+
+/* The ends of the range come often. */
+static uint32_t within(uint32_t low, uint32_t high)
+{
+    const uint32_t which = below(4);
+    return which == 0 ? low : which == 1 ? high : low + below(high - low + 1);
+}
+
+static uint8_t *put(uint8_t *at, int width, uint32_t number)
+{
+    while (width-- > 0)
+        *at++ = (uint8_t)(number >> 8 * width);
+    return at;
+}
+
+static void put_any(uint8_t bytes[LONGEST + 8])
+{
+    for (size_t i = 0; i < LONGEST; i += 8) {
+        const uint64_t eight = next();
+        memcpy(bytes + i, &eight, 8);
+    }
+}
+
+static uint32_t put_nonzero(uint8_t *bytes, uint32_t len)
+{
+    for (uint32_t i = 0; i < len; i++)
+        put(bytes + i, 1, within(1, 255));
+    return len;
+}
+
+/* 01's division, bit by bit: 0xBA, highest bit first, no final change. */
+static uint8_t divided(uint8_t remainder, const uint8_t *bytes, size_t len)
+{
+    for (size_t i = 0; i < len; i++) {
+        remainder ^= bytes[i];
+        for (int bit = 0; bit < 8; bit++)
+            remainder = (uint8_t)(remainder << 1 ^ (remainder & 0x80 ? 0xBA : 0));
+    }
+    return remainder;
+}
+
+/* "The message is byte 0x32, then all payload bytes but the last." */
+static uint8_t check_of(const uint8_t *payload, size_t len)
+{
+    const uint8_t type = 0x32;
+    return divided(divided(0, &type, 1), payload, len - 1);
+}
+
+/* TEXTS, POPUPS, RECORDS */
+
+/* 01's sheets. Values: b a byte; 1, 3 and F a number up to that; f a frequency; c a colour. */
+static const struct kind {
+    uint8_t id, sub_command;
+    const char *values;
+} kinds[KINDS] = {
+    {0x01, 0x01, ""},    {0x01, 0x02, ""},      {0x05, 0x01, "b"},  {0x08, 0x02, "f"}, {0x08, 0x04, "13F"},  {0x08, 0x05, ""},
+    {0x08, 0x06, "b"},   {0x08, 0x08, "b"},     {0x09, 0x01, ""},   {0x09, 0x02, "c"}, {0x09, 0x03, "bbcc"}, {0x09, 0x04, "bbcc"},
+    {0x09, 0x05, "bbc"}, {0x0A, 0x70, "bbbbb"}, {0x0A, 0x71, "b1"}, {0x10, 0x01, ""},  {0x10, 0x02, ""},     {0x10, 0x03, ""},
+    {0x10, 0x05, "b"},   {0x10, 0x06, ""},      {0x10, 0x07, "b"},  {0x10, 0x0A, ""},  {0x10, 0x0B, ""},     {0x10, 0x0C, ""},
+    {0x10, 0x0D, ""},    {0x20, 0x01, "bbb"},   {0x20, 0x02, "b"},  {0x22, 0x01, ""},  {0x22, 0x02, "b1"},   {0xFF, 0x00, "bb1"},
+};
+
+static uint8_t *put_value(uint8_t *at, char what)
+{
+    switch (what) {
+    case '1': return put(at, 1, within(0, 1));
+    case '3': return put(at, 1, within(0, 3));
+    case 'F': return put(at, 1, within(0, 15));
+    case 'f': return put(at, 2, within(5000, 6000));
+    case 'c': return put(put(put(at, 2, within(0, 359)), 1, within(0, 100)), 1, within(0, 100));
+    default: return put(at, 1, within(0, 255));
+    }
+}
+
+static void put_text(uint8_t *image, uint32_t longest) { image[0] = (uint8_t)put_nonzero(image + 1, within(0, longest)); }
+
+/* Texts that are made, one by one; the popup may still have no room, or lack an item that another needs. */
+static void put_fields(uint8_t *image)
+{
+    static const uint8_t texts[] = {CRSF_FIELDS_HEADER, CRSF_FIELDS_INFO, CRSF_FIELDS_LABEL, CRSF_FIELDS_UNIT,
+                                    CRSF_FIELDS_POSSIBLE_VALUES};
+    const uint32_t longest = within(0, 51);
+    memset(image, 0, CRSF_FIELDS_SIZE);
+    for (size_t i = 0; i < sizeof texts; i++)
+        put_text(image + texts[i], longest);
+    put(image + CRSF_FIELDS_TIMEOUT, 1, within(0, 255));
+    put(image + CRSF_FIELDS_CLOSE, 1, within(0, 1));
+    put(image + CRSF_FIELDS_ADDITIONAL, 1, within(CRSF_ADDITIONAL_ABSENT, CRSF_ADDITIONAL_SELECTION));
+    put(image + CRSF_FIELDS_VALUE, 4, (uint32_t)next()); /* and min, max, default */
+    put(image + CRSF_FIELDS_HAS_POSSIBLE_VALUES, 1, within(0, 1));
+}
+
+/* Of the first fields drawn that make one. */
+static void put_popup(uint8_t *image)
+{
+    uint8_t fields[CRSF_FIELDS_SIZE];
+    for (int tries = 0; tries < 1000; tries++) {
+        put_fields(fields);
+        if (crsf_popup(fields, sizeof fields, image, CRSF_POPUP_SIZE) == CRSF_ACCEPTED)
+            return;
+    }
+    fputs("crsf_popup makes no popup\n", stderr), exit(1);
+}
+
+/* Each kind in its turn. */
+static void put_record(uint8_t *image)
+{
+    static unsigned turns;
+    const struct kind *kind = &kinds[turns++ % KINDS];
+    memset(image, 0, CRSF_RECORD_SIZE);
+    uint8_t *at = put(image, 4, (uint32_t)next() << 16 | (uint32_t)kind->id << 8 | kind->sub_command);
+    for (const char *value = kind->values; *value != '\0'; value++)
+        at = put_value(at, *value);
+    if (kind->id == CRSF_ACK)
+        put_text(image + CRSF_RECORD_LENGTH, 52);
+    if (kind->id == CRSF_SCREEN && kind->sub_command == CRSF_SCREEN_POPUP_MESSAGE_START)
+        put_popup(image + CRSF_RECORD_LENGTH);
+}
+
+/* PAYLOADS AND EDITS */
+
+/* Written from a record; one in sixteen then gets the id of a family left behind. */
+static size_t put_payload(uint8_t *payload)
+{
+    uint8_t record[CRSF_RECORD_SIZE];
+    put_record(record);
+    const uint32_t answer = crsf_write(record, sizeof record, payload, CRSF_MAX_PAYLOAD);
+    if (CRSF_NUMBER(answer) != CRSF_ACCEPTED)
+        fprintf(stderr, "crsf_write refuses a valid record: %u\n", CRSF_NUMBER(answer)), exit(1);
+    if (below(16) == 0)
+        payload[2] = below(2) == 0 ? 0x03 : 0x13;
+    return CRSF_COUNT(answer);
+}
+
+/* Mostly one of the payload's own family: 01 numbers those of a family within ten. */
+static uint32_t field(uint8_t id)
+{
+    static const uint8_t first[256] = {[CRSF_OSD] = 10,       [CRSF_VTX] = 20,          [CRSF_LED] = 30,    [CRSF_GENERAL] = 40,
+                                       [CRSF_CROSSFIRE] = 50, [CRSF_FLOW_CONTROL] = 60, [CRSF_SCREEN] = 70, [CRSF_ACK] = 80};
+    switch (below(8)) {
+    case 0: return (uint32_t)next();
+    case 1: return below(101);
+    case 2: return within(CRSF_FIELD_DESTINATION, CRSF_FIELD_SOURCE);
+    default: return first[id] + below(8);
+    }
+}
+
+static uint32_t number(void)
+{
+    static const uint32_t ends[] = {0,   1,   2,    3,    4,    15,   16,    100,   101,       255, 256,
+                                    359, 360, 4999, 5000, 6000, 6001, 65535, 65536, UINT32_MAX};
+    return below(2) == 0 ? (uint32_t)next() >> below(32) : ends[below(sizeof ends / sizeof ends[0])];
+}
+
+static size_t put_edits(uint8_t *edits, uint8_t id)
+{
+    const size_t len = CRSF_EDIT_SIZE * below(LONGEST / CRSF_EDIT_SIZE + 1);
+    for (size_t i = 0; i < len; i += CRSF_EDIT_SIZE)
+        put(put(edits + i, 4, field(id)), 4, number());
+    return len;
+}
+
+/* ANY OF THEM, AND ONES NEAR IT */
+
+/* Returns the length; id is that of the payload to edit. */
+static size_t put_valid(enum content content, uint8_t *bytes, uint8_t id)
+{
+    switch (content) {
+    case FIELDS: return put_fields(bytes), CRSF_FIELDS_SIZE;
+    case POPUP_IMAGE: return put_popup(bytes), CRSF_POPUP_SIZE;
+    case RECORD: return put_record(bytes), CRSF_RECORD_SIZE;
+    case PAYLOAD:
+    case PAYLOAD_IN_PLACE: return put_payload(bytes);
+    case EDITS: return put_edits(bytes, id);
+    default: return put_nonzero(bytes, within(0, 56)); /* a text or information */
+    }
+}
+
+/* Half stay valid; the others are any bytes, cut, longer, or have a byte changed: anywhere, or from 2 to 7, where records and
+ * payloads have their id, sub-command and first values. Returns the length. */
+static size_t damaged(uint8_t bytes[LONGEST + 8], size_t length)
+{
+    const uint32_t len = (uint32_t)length;
+    switch (below(10)) {
+    case 0: return put_any(bytes), below(LONGEST + 1);
+    case 1: return below(len + 1);
+    case 2: return len + 8 < LONGEST ? len + below(8) : LONGEST;
+    case 3: return put(bytes + below(len + 1), 1, within(0, 255)), len;
+    case 4: return put(bytes + 2 + below(6), 1, within(0, 255)), len;
+    default: return len;
+    }
+}

@@ -1,0 +1,96 @@
+//! What is given back instead of a command.
+use core::error::Error;
+use core::fmt;
+
+use crate::boundary;
+
+/// A refusal, with its number. The first three are uf-crsf's; the others are added.
+///
+/// A refused call leaves every byte that it was lent as it was.
+///
+/// ```
+/// use crsf::packets::{CrsfPacket, DirectCommands};
+/// use crsf::CrsfParsingError;
+///
+/// let bluetooth = [0xC8, 0xEA, 0x03, 0xEC];
+/// let refused = DirectCommands::from_bytes(&bluetooth).unwrap_err();
+/// assert_eq!(refused, CrsfParsingError::FamilyLeftBehind);
+/// assert_eq!(refused.number(), 4);
+/// assert_eq!(refused.to_string(), "family left behind (4)");
+/// assert_eq!(CrsfParsingError::from_number(4), Some(refused));
+/// assert_eq!(CrsfParsingError::from_number(0), None);
+/// ```
+#[derive(Debug, Clone, Copy, PartialEq, Eq)]
+#[repr(u8)]
+pub enum CrsfParsingError {
+    /// A payload, text or information that is too short or too long.
+    InvalidPayloadLength = 1,
+    /// A wrong check, an unknown id or sub-command, a value out of range.
+    InvalidPayload = 2,
+    /// The buffer has too little room.
+    BufferOverflow = 3,
+    /// Command id 0x03 (Bluetooth) or 0x13 (RC over WiFi).
+    FamilyLeftBehind = 4,
+    /// Bytes that are the image of no record. The types here hold none, so that only [`boundary`] can be given one.
+    RecordNotMade = 5,
+    /// An edit of a payload that can be read, though writing what it says gives other bytes.
+    NotAsWritten = 6,
+    /// An edit of a field that the command does not have.
+    NoSuchField = 7,
+    /// An edit to a number that the field cannot hold.
+    NumberOutsideRange = 8,
+}
+
+impl CrsfParsingError {
+    /// The number by which the C functions, and answers to a list of edits, know it.
+    pub const fn number(self) -> u8 {
+        self as u8
+    }
+
+    /// The refusal of that number; `None` where there is none, as of 0, which means accepted.
+    pub const fn from_number(number: u8) -> Option<Self> {
+        Some(match number {
+            1 => Self::InvalidPayloadLength,
+            2 => Self::InvalidPayload,
+            3 => Self::BufferOverflow,
+            4 => Self::FamilyLeftBehind,
+            5 => Self::RecordNotMade,
+            6 => Self::NotAsWritten,
+            7 => Self::NoSuchField,
+            8 => Self::NumberOutsideRange,
+            _ => return None,
+        })
+    }
+
+    const fn words(self) -> &'static str {
+        match self {
+            Self::InvalidPayloadLength => "InvalidPayloadLength",
+            Self::InvalidPayload => "InvalidPayload",
+            Self::BufferOverflow => "BufferOverflow",
+            Self::FamilyLeftBehind => "family left behind",
+            Self::RecordNotMade => "record not made",
+            Self::NotAsWritten => "not as written",
+            Self::NoSuchField => "no such field",
+            Self::NumberOutsideRange => "number outside range",
+        }
+    }
+}
+
+impl fmt::Display for CrsfParsingError {
+    fn fmt(&self, f: &mut fmt::Formatter<'_>) -> fmt::Result {
+        write!(f, "{} ({})", self.words(), self.number())
+    }
+}
+
+impl Error for CrsfParsingError {}
+
+/// What a C function's word says: the count, or the refusal.
+pub(crate) fn answer(word: u32) -> Result<usize, CrsfParsingError> {
+    match boundary::number(word) {
+        0 => Ok(boundary::count(word)),
+        number => match CrsfParsingError::from_number(number) {
+            Some(refusal) => Err(refusal),
+            None => unreachable!("the C functions answer 0 to 8, not {number}"),
+        },
+    }
+}

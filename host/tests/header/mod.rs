@@ -1,0 +1,81 @@
+//! The numbers of include/crsf.h, from its text.
+use std::collections::BTreeMap;
+use std::string::{String, ToString};
+use std::vec::Vec;
+
+/// Numbers by their names, without the `CRSF_` before each.
+pub type Names = BTreeMap<String, u32>;
+
+/// Of all that the header names, what lies in images (ids, sub-commands, places, kinds), or else the rest: refusals, fields, edits, sizes
+/// and limits. No name stands twice.
+pub fn names(in_images: bool) -> Names {
+    let header = without_comments(include_str!("../../../include/crsf.h"));
+    let mut all = enums(&header);
+    all.push(macros(&header));
+    let mut names = Names::new();
+    for group in all {
+        let refusals = group.contains_key("ACCEPTED");
+        for (name, number) in group {
+            if in_images == (!refusals && lies_in_images(&name)) {
+                assert_eq!(names.insert(name.clone(), number), None, "{name}");
+            }
+        }
+    }
+    names
+}
+
+fn lies_in_images(name: &str) -> bool {
+    let limits = ["FRAME_TYPE", "MIN_PAYLOAD", "MAX_PAYLOAD"];
+    let others = ["FIELD_", "EDIT_"];
+    !limits.contains(&name)
+        && !others.iter().any(|other| name.starts_with(other))
+        && !name.ends_with("_SIZE")
+}
+
+fn without_comments(mut text: &str) -> String {
+    let mut code = String::new();
+    while let Some((before, comment)) = text.split_once("/*") {
+        code.push_str(before);
+        text = comment.split_once("*/").expect("the end of a comment").1;
+    }
+    code + text
+}
+
+/// `enum { CRSF_NAME = NUMBER, .. }`, each.
+fn enums(code: &str) -> Vec<Names> {
+    let bodies = code.split("enum {").skip(1);
+    bodies
+        .map(|rest| {
+            let body = rest.split_once('}').expect("the end of an enum").0;
+            let items = body.split(',').map(str::trim);
+            items.filter(|item| !item.is_empty()).map(item).collect()
+        })
+        .collect()
+}
+
+fn item(text: &str) -> (String, u32) {
+    let (name, number) = text.split_once('=').expect("a name and its number");
+    let name = name.trim().strip_prefix("CRSF_").expect("CRSF_ first");
+    (name.to_string(), number_of(number))
+}
+
+/// `#define CRSF_NAME NUMBER`; not those that take an argument.
+fn macros(code: &str) -> Names {
+    let defines = code
+        .lines()
+        .filter_map(|line| line.strip_prefix("#define CRSF_"));
+    defines
+        .filter_map(|define| define.split_once(' '))
+        .filter(|(name, _)| !name.contains('('))
+        .map(|(name, number)| (name.to_string(), number_of(number)))
+        .collect()
+}
+
+fn number_of(text: &str) -> u32 {
+    let text = text.trim().trim_end_matches('u');
+    let number = match text.strip_prefix("0x") {
+        Some(digits) => u32::from_str_radix(digits, 16),
+        None => text.parse(),
+    };
+    number.unwrap_or_else(|error| panic!("{text}: {error}"))
+}
