@@ -1,5 +1,6 @@
 //! One input given to both sides: the answer's word and every lent byte have to be the same.
 use std::fmt::Debug;
+use std::panic::resume_unwind;
 
 use crate::popups::Popup;
 use crate::side::Side;
@@ -14,6 +15,9 @@ pub const LENT: u8 = 0xA5;
 const BEHIND: usize = 2;
 
 const MOST: usize = fields::SIZE + BEHIND;
+
+/// What a run is left with at the first difference of a side that says so (`Side::until_first`).
+pub struct Differs;
 
 /// Cases of one kind, and the first in which the two sides differ.
 pub struct Both<'a> {
@@ -43,6 +47,9 @@ impl<'a> Both<'a> {
             self.first.get_or_insert_with(|| {
                 format!("{}: ours {ours:02X?}, the Rust's {theirs:02X?}", case())
             });
+            if self.side.until_first {
+                resume_unwind(Box::new(Differs));
+            }
         }
     }
 

@@ -30,4 +30,5 @@ pub const OURS: Side = Side {
     popup_fields: boundary::popup_fields,
     check: boundary::check,
     types: types::host::TYPES,
+    until_first: false,
 };

@@ -32,4 +32,6 @@ pub struct Side {
     pub check: fn(&[u8], u8) -> u8,
     /// What a Rust host uses.
     pub types: Types,
+    /// A side that is wrong on purpose is seen by one difference: it ends the run.
+    pub until_first: bool,
 }

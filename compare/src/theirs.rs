@@ -250,4 +250,5 @@ pub const RUST: Side = Side {
     popup_fields,
     check,
     types: TYPES,
+    until_first: false,
 };

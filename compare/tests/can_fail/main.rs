@@ -7,6 +7,9 @@ mod readers;
 mod types;
 mod writers;
 
+use std::panic::catch_unwind;
+
+use compare::both::Differs;
 use compare::runs::{self, Run};
 use compare::side::Side;
 use compare::theirs::RUST;
@@ -21,9 +24,12 @@ fn passes(run: Run, right: &Side) {
 }
 
 fn is_seen(what: &str, run: Run, wrong: &Side) {
-    let both = run(wrong, ROUNDS, SEED);
-    assert_ne!(both.differing, 0, "{what}");
-    assert!(both.first.is_some(), "{what}");
+    let wrong = Side {
+        until_first: true,
+        ..*wrong
+    };
+    let seen = catch_unwind(|| run(&wrong, ROUNDS, SEED).cases);
+    assert!(seen.is_err_and(|why| why.is::<Differs>()), "{what}");
 }
 
 #[test]

@@ -20,7 +20,7 @@ blank-disarms = refl
 pub blank-addressed : (blankCommand .«dst_addr» ≡ 0) × (blankCommand .«src_addr» ≡ 0)
 blank-addressed = (refl, refl)
 
--- ---- kind::read (and must-fail/nothing_stored)
+-- ---- kind::read (and must-fail/information_uncounted)
 -- a frequency is not told as a power: M3
 pub kind-m3 : readKind m3 ≡ got (kind (Vtx (SetFrequency 5800)) 0)
 kind-m3 = ap (λ (a : Answer DirectCommands). andThen a (λ c. got (kindOf c))) m3-read
