@@ -6,6 +6,7 @@ pub mod Step
 pub mod Served
 pub mod Places
 pub mod Search
+pub mod Indexed
 pub mod Applied
 pub mod AsWritten
 pub mod Turns

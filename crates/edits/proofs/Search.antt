@@ -8,7 +8,7 @@ use native.Mathlib.Nat.{zero-add}
 use native.Mathlib.Omega.{arith}
 use lib.ListN.{length, take, drop, getD}
 use lib.Dec.{ltb, leb, eqb}
-use borrow.Author.Tests.{ltb-true, ltb-false, leb-true, eqb-true, ne-eqb}
+use borrow.Author.Tests.{ltb-true, ltb-false, leb-true, eqb-true}
 use Rattle.codec.specs.Pick.{pick}
 use Rattle.codec.specs.Sheet.{got, refused}
 use Rattle.codec.proofs.Back.{both, passed}
@@ -23,10 +23,6 @@ Lacks f (e ∷ es) = (eqb f (e .number) ≡ false) × Lacks f es
 lacks-none : (f : ℕ) (l : List Entry) → Lacks f l → searched l f ≡ refused 7 0
 lacks-none f [] h = refl
 lacks-none f (e ∷ l) h = rw (h .0) (lacks-none f l (h .1))
-
-lacks-row : (f near far i : ℕ) (l : List Entry) → Lacks f l → rowIn l i f near far ≡ rowWith 32 1 0 0 0 1 1
-lacks-row f near far i [] h = refl
-lacks-row f near far i (e ∷ l) h = rw (h .0) (lacks-row f near far (i + 1) l (h .1))
 
 lacks-take : (f n : ℕ) (l : List Entry) → Lacks f l → Lacks f (take n l)
 lacks-take f zero l h = tt
@@ -233,17 +229,3 @@ row-in f near far first end h m = in-by f near far first end table (rowFor f nea
 
 pub row-out : (f near far first end : ℕ) → isAmong (rowFor f near far .index) first end ≡ false → searched (rowsOf first end) f ≡ refused 7 0
 row-out f near far first end m = out-by f near far first end table (rowFor f near far) (told-table f near far) m
-
--- ---- the last arm of a match: a number that is none of the table's
-abbrev pub NoneOf : ℕ → List Entry → Type 0 → Type 0
-NoneOf f [] A = A
-NoneOf f (e ∷ l) A = NoneOf f l (A × (f ≡ e .number → ⊥))
-
-none-lacks : (f : ℕ) (l : List Entry) (A : Type 0) → NoneOf f l A → A × Lacks f l
-none-lacks f [] A h = (h, tt)
-none-lacks f (e ∷ l) A h =
-    let r = none-lacks f l (A × (f ≡ e .number → ⊥)) h in
-    (r .0 .0, (ne-eqb f (e .number) (r .0 .1), r .1))
-
-pub row-none : (f near far : ℕ) → NoneOf f table (Unit {0}) → rowFor f near far ≡ rowWith 32 1 0 0 0 1 1
-row-none f near far h = lacks-row f near far 0 table (none-lacks f table (Unit {0}) h .1)

@@ -172,6 +172,22 @@ rowIn (e ∷ es) i f near far = pick (eqb f (e .number)) (located i e near far) 
 abbrev pub rowFor : ℕ → ℕ → ℕ → FieldRow
 rowFor f near far = rowIn table 0 f near far
 
+-- the index of the first entry with a number, counted from i; the count past the last: none
+abbrev pub indexIn : List Entry → ℕ → ℕ → ℕ
+indexIn [] i f = i
+indexIn (e ∷ es) i f = pick (eqb f (e .number)) i (indexIn es (i + 1) f)
+
+abbrev pub indexFor : ℕ → ℕ
+indexFor f = indexIn table 0 f
+
+-- the row of an index
+abbrev pub rowAt : ℕ → ℕ → ℕ → FieldRow
+rowAt i near far = pick (ltb i 32) (located i (getD table i noRow) near far) (rowWith 32 1 0 0 0 1 1)
+
+-- an origin as the code's table has it: 0, 1, 2
+abbrev pub originFrom : ℕ → ℕ → ℕ → ℕ
+originFrom o near far = pick (eqb o 0) 0 (pick (eqb o 1) near far)
+
 -- whether a command has the row of an index
 abbrev pub isAmong : ℕ → ℕ → ℕ → Bool
 isAmong i first end = pick (ltb i 2) true (pick (ltb i first) false (ltb i end))

@@ -1,7 +1,7 @@
 // Document 01, "Field numbers for edits": "These 32 rows are kept as one fixed table."
 ghost use mathlib.Core.Path.{_≡_};
-ghost use Prim.Native.Nat.{_≤_};
-ghost use Rattle.edits.specs.Table.{rowWith, rowFor, isAmong};
+ghost use Prim.Native.Nat.{_+_, _≤_};
+ghost use Rattle.edits.specs.Table.{rowWith, originFrom, indexFor, rowFor, isAmong};
 
 // A field: its row's index, how many bytes hold it, its range, and the place of those bytes. In the number n of those bytes the field
 // is n / unit % many.
@@ -37,47 +37,134 @@ fn of(
     }
 }
 
-// THE TABLE: number; index, width, low, high, place, unit, many. Places that are not fixed count from what the command's layout tells: its
-// only or start colour or a popup's timeout (near), a selection's value (far). In the order of 01, but 41 before 40: the rows that a
-// command has stand together. Any other number has no row, index 32. As a `match` and no array: a constant array is put on the stack anew
-// at each use.
+// What a row's place counts from: the destination; what the command's layout tells as near; or as far.
+const START: usize = 0;
+
+const NEAR: usize = 1;
+
+const FAR: usize = 2;
+
+// A row: the field's number; how many bytes hold it; low, high; what its place counts from, and that place; unit, many.
+struct Field(u32, usize, u32, u32, usize, usize, u32, u64);
+
+// THE TABLE. In the order of 01, but 41 before 40: the rows that a command has stand together.
+const FIELDS: [Field; 32] = [
+    Field(1, 1, 0, 255, START, 0, 1, 256),
+    Field(2, 1, 0, 255, START, 1, 1, 256),
+    Field(10, 1, 0, 255, START, 4, 1, 256),
+    Field(20, 2, 5000, 6000, START, 4, 1, 65536),
+    Field(21, 1, 0, 1, START, 4, 1, 2),
+    Field(22, 1, 0, 3, START, 4, 2, 4),
+    Field(23, 1, 0, 15, START, 4, 8, 16),
+    Field(24, 1, 0, 255, START, 4, 1, 256),
+    Field(30, 2, 0, 65535, START, 4, 1, 65536),
+    Field(31, 2, 0, 359, NEAR, 0, 128, 512),
+    Field(32, 1, 0, 100, NEAR, 1, 1, 128),
+    Field(33, 1, 0, 100, NEAR, 2, 1, 256),
+    Field(34, 2, 0, 359, START, 9, 128, 512),
+    Field(35, 1, 0, 100, START, 10, 1, 128),
+    Field(36, 1, 0, 100, START, 11, 1, 256),
+    Field(41, 4, 0, 4294967295, START, 5, 1, 4294967296),
+    Field(40, 1, 0, 255, START, 4, 1, 256),
+    Field(42, 1, 0, 1, START, 5, 1, 256),
+    Field(50, 1, 0, 255, START, 4, 1, 256),
+    Field(60, 1, 0, 255, START, 4, 1, 256),
+    Field(61, 2, 0, 65535, START, 5, 1, 65536),
+    Field(70, 1, 0, 255, NEAR, 0, 1, 256),
+    Field(71, 1, 0, 1, NEAR, 1, 1, 256),
+    Field(72, 1, 0, 255, FAR, 0, 1, 256),
+    Field(73, 1, 0, 255, FAR, 1, 1, 256),
+    Field(74, 1, 0, 255, FAR, 2, 1, 256),
+    Field(75, 1, 0, 255, FAR, 3, 1, 256),
+    Field(76, 1, 0, 255, START, 4, 1, 256),
+    Field(77, 1, 0, 1, START, 5, 1, 256),
+    Field(80, 1, 0, 255, START, 3, 1, 256),
+    Field(81, 1, 0, 255, START, 4, 1, 256),
+    Field(82, 1, 0, 1, START, 5, 1, 256),
+];
+
+fn origin_of(origin: usize, near: usize, far: usize) -> usize
+    ensures { λ r. ⌜ r ≡ originFrom origin near far ⌝ }
+{
+    match origin {
+        START => 0,
+        NEAR => near,
+        _ => far,
+    }
+}
+
+// The row of this index, at its place in a command.
+fn placed(index: usize, row: Field, near: usize, far: usize) -> FieldRow
+    requires { ⌜ originFrom (row .4) near far + row .5 ≤ 100 ⌝ }
+    ensures { λ r. ⌜ r ≡ rowWith index (row .1) (row .2) (row .3) (originFrom (row .4) near far + row .5) (row .6) (row .7) ⌝ }
+{
+    let Field(number, width, low, high, origin, place, unit, many) = row;
+    of(
+        index,
+        width,
+        low,
+        high,
+        origin_of(origin, near, far) + place,
+        unit,
+        many,
+    )
+}
+
+// The index of a field's row in the table; 32: it has none.
+fn index_of(field: u32) -> usize
+    ensures { λ r. ⌜ r ≡ indexFor field ⌝ }
+{
+    let t = FIELDS;
+    let mut i: usize = 0;
+    while i < 32 {
+        let f = t[i];
+        if f.0 == field {
+            return i;
+        }
+        i += 1;
+    }
+    32
+}
+
+// The table's rows are read at constant places: so the compiler folds the table, and none of it is on the stack.
 pub(crate) fn row(field: u32, near: usize, far: usize) -> FieldRow
     requires { ⌜ (near ≤ 60) × (far ≤ 60) ⌝ }
     ensures { λ r. ⌜ r ≡ rowFor field near far ⌝ }
 {
-    match field {
-        1 => of(0, 1, 0, 255, 0, 1, 256),
-        2 => of(1, 1, 0, 255, 1, 1, 256),
-        10 => of(2, 1, 0, 255, 4, 1, 256),
-        20 => of(3, 2, 5000, 6000, 4, 1, 65536),
-        21 => of(4, 1, 0, 1, 4, 1, 2),
-        22 => of(5, 1, 0, 3, 4, 2, 4),
-        23 => of(6, 1, 0, 15, 4, 8, 16),
-        24 => of(7, 1, 0, 255, 4, 1, 256),
-        30 => of(8, 2, 0, 65535, 4, 1, 65536),
-        31 => of(9, 2, 0, 359, near, 128, 512),
-        32 => of(10, 1, 0, 100, near + 1, 1, 128),
-        33 => of(11, 1, 0, 100, near + 2, 1, 256),
-        34 => of(12, 2, 0, 359, 9, 128, 512),
-        35 => of(13, 1, 0, 100, 10, 1, 128),
-        36 => of(14, 1, 0, 100, 11, 1, 256),
-        41 => of(15, 4, 0, 4294967295, 5, 1, 4294967296),
-        40 => of(16, 1, 0, 255, 4, 1, 256),
-        42 => of(17, 1, 0, 1, 5, 1, 256),
-        50 => of(18, 1, 0, 255, 4, 1, 256),
-        60 => of(19, 1, 0, 255, 4, 1, 256),
-        61 => of(20, 2, 0, 65535, 5, 1, 65536),
-        70 => of(21, 1, 0, 255, near, 1, 256),
-        71 => of(22, 1, 0, 1, near + 1, 1, 256),
-        72 => of(23, 1, 0, 255, far, 1, 256),
-        73 => of(24, 1, 0, 255, far + 1, 1, 256),
-        74 => of(25, 1, 0, 255, far + 2, 1, 256),
-        75 => of(26, 1, 0, 255, far + 3, 1, 256),
-        76 => of(27, 1, 0, 255, 4, 1, 256),
-        77 => of(28, 1, 0, 1, 5, 1, 256),
-        80 => of(29, 1, 0, 255, 3, 1, 256),
-        81 => of(30, 1, 0, 255, 4, 1, 256),
-        82 => of(31, 1, 0, 1, 5, 1, 256),
+    let t = FIELDS;
+    match index_of(field) {
+        0 => placed(0, t[0], near, far),
+        1 => placed(1, t[1], near, far),
+        2 => placed(2, t[2], near, far),
+        3 => placed(3, t[3], near, far),
+        4 => placed(4, t[4], near, far),
+        5 => placed(5, t[5], near, far),
+        6 => placed(6, t[6], near, far),
+        7 => placed(7, t[7], near, far),
+        8 => placed(8, t[8], near, far),
+        9 => placed(9, t[9], near, far),
+        10 => placed(10, t[10], near, far),
+        11 => placed(11, t[11], near, far),
+        12 => placed(12, t[12], near, far),
+        13 => placed(13, t[13], near, far),
+        14 => placed(14, t[14], near, far),
+        15 => placed(15, t[15], near, far),
+        16 => placed(16, t[16], near, far),
+        17 => placed(17, t[17], near, far),
+        18 => placed(18, t[18], near, far),
+        19 => placed(19, t[19], near, far),
+        20 => placed(20, t[20], near, far),
+        21 => placed(21, t[21], near, far),
+        22 => placed(22, t[22], near, far),
+        23 => placed(23, t[23], near, far),
+        24 => placed(24, t[24], near, far),
+        25 => placed(25, t[25], near, far),
+        26 => placed(26, t[26], near, far),
+        27 => placed(27, t[27], near, far),
+        28 => placed(28, t[28], near, far),
+        29 => placed(29, t[29], near, far),
+        30 => placed(30, t[30], near, far),
+        31 => placed(31, t[31], near, far),
         _ => of(32, 1, 0, 0, 0, 1, 1),
     }
 }
