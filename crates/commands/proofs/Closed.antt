@@ -6,7 +6,7 @@ use native.Mathlib.Omega.{arith}
 use native.Mathlib.Nat.{add-zero, zero-add}
 use lib.ListN.{length, take, drop, set, take-append-drop, length-append, length-drop}
 use lib.Seq.{sets, sets-eq, length-take-le, take-append-seam, take-append-add}
-use Rattle.crc.specs.Check.{commandPolynomial, checkOf, allButLast, payloadCheck}
+use Rattle.crc.specs.Check.{commandPolynomial, checkOf, allButLast, typedCheck, payloadCheck}
 use Rattle.codec.proofs.Loops.{sets-front, sets-append}
 use Rattle.codec.proofs.Patch.{sets-right, sets-left}
 use Rattle.commands.specs.Closing.{fronted, closed}
@@ -49,7 +49,7 @@ front p (b ∷ l) h = (b, take-append-add p (b ∷ l) 1)
 
 -- the check behind bytes that were put at the front
 pub check-behind : (s p : List ℕ) → length p < length s → payloadCheck (take (length p + 1) (sets s 0 p)) ≡ checkOf commandPolynomial (0x32 ∷ p)
-unfolding payloadCheck
+unfolding typedCheck
 check-behind s p h =
     let e : sets s 0 p ≡ p ++ drop (length p) s = rw (zero-add (length p)) at (sets-eq p s 0 (omega arith)) in
     let d : 0 < length (drop (length p) s) = rw length-drop (omega arith) in

@@ -6,7 +6,7 @@ use mathlib.Core.List.{List, [], _∷_, _++_, map}
 use mathlib.Core.Path.{_≡_, refl, ap, _∙_}
 use lib.ListN.{length, replicate}
 use Rattle.crc.specs.Polynomial.{remainder}
-use Rattle.crc.specs.Check.{checkOf, payloadCheck}
+use Rattle.crc.specs.Check.{checkOf, typedCheck, payloadCheck}
 use Rattle.codec.specs.Sheet.{Answer, got, refused, andThen}
 use Rattle.codec.specs.Reading.{readItem}
 use Rattle.codec.specs.Writing.{counted}
@@ -191,11 +191,11 @@ all-worked [] = refl
 all-worked (x ∷ l) = rw (worked-is x, all-worked l)
 
 earlier-computed : map computed earlier ≡ earlier
-unfolding readItem payloadCheck checkOf remainder
+unfolding readItem typedCheck checkOf remainder
 earlier-computed = refl
 
 later-computed : map computed later ≡ later
-unfolding readItem payloadCheck checkOf remainder
+unfolding readItem typedCheck checkOf remainder
 later-computed = refl
 
 -- ---- THE statements
@@ -210,9 +210,9 @@ marked = ap (λ (l : List Example). l ++ map worked later) earlier-marked ∙ ap
 
 -- M1 and M3 read, as laws of their own
 pub m1-read : readCommand m1 ≡ got disarm
-unfolding readItem payloadCheck checkOf remainder
+unfolding readItem typedCheck checkOf remainder
 m1-read = read-is m1
 
 pub m3-read : readCommand m3 ≡ got (frequency 5800)
-unfolding readItem payloadCheck checkOf remainder
+unfolding readItem typedCheck checkOf remainder
 m3-read = read-is m3

@@ -6,7 +6,7 @@ use native.Mathlib.Omega.{arith}
 use lib.ListN.{length, getD, length-append}
 use lib.Seq.{take-append-seam, getD-append-seam}
 use borrow.Author.Tests.{le-ltb, eq-eqb}
-use Rattle.crc.specs.Check.{commandPolynomial, checkOf, payloadCheck}
+use Rattle.crc.specs.Check.{commandPolynomial, checkOf, typedCheck, payloadCheck}
 use Rattle.families.specs.Payload.{familyId}
 use Rattle.families.specs.declared.payload.CommandPayload.{CommandPayload}
 use Rattle.commands.specs.Command.{storedIn}
@@ -26,7 +26,7 @@ last-is o =
     rw e (getD-append-seam o k [] 0)
 
 pub check-is : (o : List ℕ) → payloadCheck (checked o) ≡ checkOf commandPolynomial (0x32 ∷ o)
-unfolding payloadCheck
+unfolding typedCheck
 check-is o = rw (but-last o (checkOf commandPolynomial (0x32 ∷ o)))
 
 -- a payload, by its places

@@ -9,7 +9,7 @@ use lib.ListN.{length, take, drop, replicate, getD, length-append, length-replic
 use lib.Seq.{take-all, take-suc, take-add, getD-drop, length-take-le}
 use lib.Dec.{ltb, eqb}
 use borrow.Author.Tests.{ltb-true, ltb-false}
-use Rattle.crc.specs.Check.{commandPolynomial, checkOf, payloadCheck, Bytes}
+use Rattle.crc.specs.Check.{commandPolynomial, checkOf, typedCheck, payloadCheck, Bytes}
 use Rattle.crc.proofs.Laws.{command, check-is-remainder, bytes-take, bytes-append}
 use Rattle.crc.proofs.Zeros.{bytes-zeros}
 use Rattle.codec.specs.Pick.{pick}
@@ -318,7 +318,7 @@ front-three (a ∷ b ∷ []) m h = absurd (omega arith)
 front-three (a ∷ b ∷ d ∷ r) m h = refl
 
 whole : (p : List ℕ) → 4 ≤ length p → checkIn p ≡ payloadCheck p → p ≡ checked (getD p 0 0 ∷ getD p 1 0 ∷ getD p 2 0 ∷ bodyIn p)
-unfolding payloadCheck
+unfolding typedCheck
 whole p l h =
     let o = take (length p - 1) p in
     let e : length p - 1 ≡ suc (suc (suc (length p - 4))) = omega arith in

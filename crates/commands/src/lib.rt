@@ -39,7 +39,7 @@ impl DirectCommands {
     // "The least length and the frame type belong to the payload type: 4 and 0x32."
     pub const MIN_PAYLOAD_SIZE: usize = 4;
 
-    // 01 names it. The check's own 0x32 is crc's, which stands below.
+    // The first byte of the message that is checked.
     pub const PACKET_TYPE: u8 = 0x32;
 
     // Disarm, both addresses 0, no stored bytes.
@@ -103,7 +103,7 @@ pub(crate) fn judge(payload: &[u8]) -> Outcome
     if MAX_PAYLOAD_SIZE < n {
         return Outcome::Refused(Refusal::InvalidPayloadLength);
     }
-    let check = crc::payload_check(payload);
+    let check = crc::payload_check(DirectCommands::PACKET_TYPE, payload);
     if payload[n - 1] != check {
         return Outcome::Refused(Refusal::InvalidPayload);
     }

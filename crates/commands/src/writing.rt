@@ -80,7 +80,7 @@ fn close(dst: u8, src: u8, id: u8, n: usize, buffer: &mut [u8])
     buffer[0] = dst;
     buffer[1] = src;
     buffer[2] = id;
-    let check = crc::payload_check(&buffer[..n + 4]);
+    let check = crc::payload_check(DirectCommands::PACKET_TYPE, &buffer[..n + 4]);
     buffer[n + 3] = check;
 }
 

@@ -5,7 +5,7 @@ use mathlib.Core.List.{List, [], _∷_, map}
 use Prim.Native.Nat.{ℕ, _-_}
 use lib.ListN.{length, getD}
 use Rattle.crc.specs.Polynomial.{remainder}
-use Rattle.crc.specs.Check.{checkOf, payloadCheck}
+use Rattle.crc.specs.Check.{checkOf, typedCheck, payloadCheck}
 
 -- M1; M2; M3 before and after its edit; M5
 abbrev pub marked : List (List ℕ)
@@ -23,5 +23,5 @@ lastOf : List ℕ → ℕ
 lastOf p = getD p (length p - 1) 0
 
 marked-right : map payloadCheck marked ≡ map lastOf marked
-unfolding payloadCheck checkOf remainder lastOf
+unfolding typedCheck checkOf remainder lastOf
 marked-right = refl

@@ -10,7 +10,7 @@ use lib.ListN.{getD, length, take}
 use mir.Val.{Fits}
 use mir.Syntax.{w8}
 use Rattle.crc.specs.Polynomial.{x, plus, Degree8, Remainder}
-use Rattle.crc.specs.Check.{commandPolynomial, Bytes, message, startedMessage, checkOf, checkFrom, allButLast, payloadCheck}
+use Rattle.crc.specs.Check.{commandPolynomial, Bytes, message, startedMessage, checkOf, checkFrom, allButLast, typedCheck}
 use Rattle.crc.specs.Steps.{steps, worked}
 use Rattle.crc.proofs.Remainders.{remainder-is}
 use Rattle.crc.proofs.Worked.{steps-low, worked-is-check}
@@ -69,14 +69,15 @@ module _ {g : ℕ} (d : Degree8 g) where
 abbrev pub command : Degree8 commandPolynomial
 command = record { least = lit≤ tt; most = lit< tt }
 
--- "the remainder of the message, times x^8", the message being 0x32 and all payload bytes but the last
-pub payload-check-is-remainder : (p : List ℕ) → Remainder commandPolynomial (message (0x32 ∷ allButLast p) * x ^ 8) (payloadCheck p)
-unfolding payloadCheck
-payload-check-is-remainder p = check-is-remainder command (0x32 ∷ allButLast p)
+-- "the remainder of the message, times x^8", the message being the frame's type and all payload bytes but the last
+pub payload-check-is-remainder : (t : ℕ) (p : List ℕ) → Remainder commandPolynomial (message (t ∷ allButLast p) * x ^ 8) (typedCheck t p)
+unfolding typedCheck
+payload-check-is-remainder t p = check-is-remainder command (t ∷ allButLast p)
 
--- a payload's check goes on from that of the 0x32
-pub payload-check-from : (p : List ℕ) → Bytes p → payloadCheck p ≡ checkFrom commandPolynomial (steps commandPolynomial 8 0x32) (allButLast p)
-unfolding payloadCheck
-payload-check-from p h =
-    sym (from-zero commandPolynomial (0x32 ∷ allButLast p))
-    ∙ check-next command 0 0x32 (allButLast p) (lit< tt) (lit< tt) (bytes-take (length p - 1) p h)
+-- a payload's check goes on from that of the type
+pub payload-check-from : (t : ℕ) (p : List ℕ) → t < 256 → Bytes p
+    → typedCheck t p ≡ checkFrom commandPolynomial (steps commandPolynomial 8 (plus 0 t)) (allButLast p)
+unfolding typedCheck
+payload-check-from t p l h =
+    sym (from-zero commandPolynomial (t ∷ allButLast p))
+    ∙ check-next command 0 t (allButLast p) (lit< tt) l (bytes-take (length p - 1) p h)

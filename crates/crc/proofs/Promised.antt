@@ -39,5 +39,5 @@ pub payload-check-remainder : (κs : Lfts 1)
     (r : resT payload-check-kinds.r κs .Denot)
     (s : AtExit (endedOf 1 payload-check-kinds.ps payload-check-kinds.r) κs)
     → payload-check.Post κs a r s
-    → Remainder commandPolynomial (message (0x32 ∷ allButLast (now (a .0))) * x ^ 8) r
-payload-check-remainder κs a r s p = rw p (payload-check-is-remainder (now (a .0)))
+    → Remainder commandPolynomial (message (a .0 ∷ allButLast (now (a .1 .0))) * x ^ 8) r
+payload-check-remainder κs a r s p = rw p (payload-check-is-remainder (a .0) (now (a .1 .0)))

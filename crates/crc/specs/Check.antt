@@ -21,9 +21,13 @@ checkOf g bs = remainder g (message bs * x ^ 8)
 abbrev pub allButLast : List ℕ → List ℕ
 allButLast p = take (length p - 1) p
 
+-- the check of a payload in a frame of type t
+unfoldable pub typedCheck : ℕ → List ℕ → ℕ
+typedCheck t p = checkOf commandPolynomial (t ∷ allButLast p)
+
 -- "The message is byte 0x32, then all payload bytes but the last."
-unfoldable pub payloadCheck : List ℕ → ℕ
-payloadCheck p = checkOf commandPolynomial (0x32 ∷ allButLast p)
+abbrev pub payloadCheck : List ℕ → ℕ
+payloadCheck p = typedCheck 0x32 p
 
 -- From a start other than 0, as the check of what came before: s is added to the first byte of the message. Of no bytes, the check is s.
 abbrev pub startedMessage : ℕ → List ℕ → ℕ

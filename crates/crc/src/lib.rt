@@ -2,14 +2,11 @@
 ghost use mathlib.Core.Path.{_≡_};
 ghost use Prim.Native.Nat.{_-_, _*_};
 ghost use lib.ListN.{replicate};
-ghost use Rattle.crc.specs.Check.{commandPolynomial, checkFrom, payloadCheck};
+ghost use Rattle.crc.specs.Check.{commandPolynomial, checkFrom, typedCheck};
 ghost use Rattle.crc.specs.Steps.{step, steps};
 
 // x^8+x^7+x^5+x^4+x^3+x without its x^8.
 const COMMAND_POLYNOMIAL: u8 = 0xBA;
-
-// The frame type, first byte of the message.
-const PACKET_TYPE: u8 = 0x32;
 
 // One step of the long division. With the polynomial a constant here the compiler makes a table of the loop below.
 fn shift(r: u8) -> u8
@@ -79,11 +76,11 @@ fn but_last(len: usize) -> usize
     if 0 < len { len - 1 } else { 0 }
 }
 
-// The check that belongs into the last byte of `payload`, whatever stands there.
-pub fn payload_check(payload: &[u8]) -> u8
-    ensures { λ r. ⌜ r ≡ payloadCheck (now (payload .entry)) ⌝ }
+// The check that belongs into the last byte of `payload`, whatever stands there. The frame type is the first byte of the message.
+pub fn payload_check(packet_type: u8, payload: &[u8]) -> u8
+    ensures { λ r. ⌜ r ≡ typedCheck «packet_type» (now (payload .entry)) ⌝ }
 {
     let end = but_last(payload.len());
-    // from start 0, the 0x32 taken in
-    check(&payload[..end], eight_steps(0 ^ PACKET_TYPE))
+    // from start 0, the type taken in
+    check(&payload[..end], eight_steps(0 ^ packet_type))
 }

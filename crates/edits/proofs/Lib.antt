@@ -2,6 +2,7 @@ pub mod Renewal
 pub mod Patched
 pub mod Held
 pub mod With
+pub mod Apart
 pub mod Step
 pub mod Served
 pub mod Places

@@ -24,6 +24,16 @@ abbrev pub withEdits : DirectCommands → List Edit → DirectCommands
 withEdits c [] = c
 withEdits c (edit f n ∷ es) = withEdits (withEdit c f n) es
 
+-- the number that a field of the command reads; 7: it has none
+abbrev pub numberAt : DirectCommands → Spot → ℕ
+numberAt c (spot i j) = getD (getD (valuesIn c) i []) j 0
+
+abbrev pub readsBy : DirectCommands → Answer Spot → Answer ℕ
+readsBy c a = andThen a (λ s. andThen (fieldAt c s) (λ d. got (numberAt c s)))
+
+abbrev pub reads : DirectCommands → ℕ → Answer ℕ
+reads c f = readsBy c (spotOf c f)
+
 -- "An edit is refused exactly when the command has no such field or the number is out of range."
 abbrev pub named : DirectCommands → ℕ → Answer Field
 named c f = andThen (spotOf c f) (λ s. fieldAt c s)

@@ -1,5 +1,6 @@
 // Replays the stored answers of the Rust from standard input. README.md in this crate's folder says what a record is.
 ghost use Prim.Native.Nat.{_<_};
+use commands::DirectCommands;
 
 mod boundary;
 mod edited;
@@ -70,7 +71,10 @@ fn is_byte(stored: &[u8], answer: u8) -> bool {
 fn agrees(kind: u8, input: &[u8], stored: &[u8]) -> bool {
     match kind {
         CHECK => is_byte(stored, crc::check(input, 0)),
-        PAYLOAD_CHECK => is_byte(stored, crc::payload_check(input)),
+        PAYLOAD_CHECK => is_byte(
+            stored,
+            crc::payload_check(DirectCommands::PACKET_TYPE, input),
+        ),
         READ => boundary::read_agrees(input, stored),
         WRITE => boundary::write_agrees(input, stored),
         TEXT => boundary::text_agrees(input, stored),

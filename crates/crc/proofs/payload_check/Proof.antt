@@ -1,4 +1,4 @@
--- The check of the 0x32 is the start of the rest. Assumes nothing.
+-- The check of the frame's type is the start of the rest. Assumes nothing.
 use mathlib.Core.Path.{sym, ap₂, _∙_}
 use Prim.Native.Nat.{ℕ}
 use native.Mathlib.Omega.{arith}
@@ -25,9 +25,10 @@ check-requires c κs = search needs
 returns : tie.Need-returns
 returns c =
     let p = c .before .before .before .before .before .args .payload .now in
+    let t = c .before .before .before .before .before .args .packet-type in
     c .check .ensures
     ∙ ap₂ (λ (s n : ℕ). checkFrom commandPolynomial s (take n p)) (c .before .eight-steps .ensures) (c .before .before .before .but-last .ensures)
-    ∙ sym (payload-check-from p (bytes-of p (c .before .before .before .before .shared-slice-known .given)))
+    ∙ sym (payload-check-from t p (search needs) (bytes-of p (c .before .before .before .before .shared-slice-known .given)))
 
 pub payload-check-spec : {M : Type 1} → statement M
 payload-check-spec =
