@@ -27,7 +27,7 @@ use Rattle.commands.proofs.Promised.{Sound, sound-accepted, accepted-sound}
 use Rattle.edits.specs.Fields.{Spot, spot, Standing, of, Listed, everywhere, listed, fields, itemIn, spotIn}
 use Rattle.edits.specs.Record.{subOf, itemsIn, valuesIn}
 use Rattle.edits.specs.Edit.{Edit, edit, fieldOf, fieldAt, spotOf, withField, editCommand, bytesLeft, numbersOf, bytesAfter}
-use Rattle.edits.specs.Demand.{withEdit, withEdits, named, judged, numbersFor, holdsBit, holdsIn, holdsItem, holdsSpot, OnlyThere, Demanded}
+use Rattle.edits.specs.Demand.{withEdit, withEdits, named, judged, numbersFor, holdsBit, holdsIn, holdsItem, holdsSpot, OnlyThere, holdsAny, OnlyThose, Demanded}
 use Rattle.edits.specs.Table.{skipped, holding}
 use Rattle.edits.specs.Change.{held, patched, changed}
 use Rattle.edits.proofs.With.{field-there, spot-free, with-field}
@@ -181,3 +181,18 @@ pub numbers-are : (c : DirectCommands) (p : List ℕ) (es : List Edit) → Deman
 numbers-are c p [] h = refl
 numbers-are c p (edit f n ∷ es) h =
     ap₂ (λ (k : ℕ) (l : List ℕ). k ∷ l) (h .1 .1 .0) (numbers-are (withEdit c f n) (bytesLeft p (editCommand p f n)) es (h .1 .1 .1 .1))
+
+pub only-those : (c : DirectCommands) (p : List ℕ) (es : List Edit) → Demanded c p es → OnlyThose c es p (bytesAfter p es)
+only-those c p [] h = (refl, λ k a b. refl)
+only-those c p (edit f n ∷ es) h =
+    let q = bytesLeft p (editCommand p f n) in
+    let o = h .1 .1 .1 .0 in
+    let r = only-those (withEdit c f n) q es (h .1 .1 .1 .1) in
+    let l = o .0 in (
+      r .0 ∙ l,
+      λ k a b. let s = neither (holdsSpot c (spotOf c f) k) (holdsAny (withEdit c f n) es k) a in r .1 k (s .1) (λ e. b (e ∙ ap (λ (x : ℕ). x - 1) l)) ∙ o .1 k (s .0) b,
+    )
+  where
+    neither : (t u : Bool) → pick t true u ≡ false → (t ≡ false) × (u ≡ false)
+    neither false u e = (refl, e)
+    neither true u e = let z : _≡_ {A = ℕ} 0 1 = cc in absurd (omega arith)

@@ -1,7 +1,7 @@
 -- What is demanded of a list of edits, in words of the record: the command so far, which edits are refused, which bytes hold a field.
 -- Assumes nothing.
 use Prim.Native.Nat.{ℕ, _+_, _-_, _*_}
-use mathlib.Core.Bool.{Bool, false}
+use mathlib.Core.Bool.{Bool, true, false}
 use mathlib.Core.Path.{_≡_}
 use mathlib.Core.List.{List, [], _∷_}
 use lib.ListN.{length, getD}
@@ -69,11 +69,30 @@ OnlyThere c f p p' =
     (length p' ≡ length p)
     × ((k : ℕ) → holdsSpot c (spotOf c f) k ≡ false → (k ≡ length p - 1 → ⊥) → getD p' k 0 ≡ getD p k 0)
 
--- THE DEMAND, over a list: before the first edit and after each, the writer accepts the command so far and makes just these bytes
+-- the same of a list: place k holds a field that one of its edits names
+abbrev pub holdsAny : DirectCommands → List Edit → ℕ → Bool
+holdsAny c [] k = false
+holdsAny c (edit f n ∷ es) k = pick (holdsSpot c (spotOf c f) k) true (holdsAny (withEdit c f n) es k)
+
+abbrev pub OnlyThose : DirectCommands → List Edit → List ℕ → List ℕ → Type 0
+OnlyThose c es p p' =
+    (length p' ≡ length p) × ((k : ℕ) → holdsAny c es k ≡ false → (k ≡ length p - 1 → ⊥) → getD p' k 0 ≡ getD p k 0)
+
+-- an edit that was made: field, number, what was answered, and the bytes that were left
+pub data Done : Type 0 where
+  done : ℕ → ℕ → ℕ → List ℕ → Done
+
+-- THE DEMAND, of edits made one after the other: before the first and after each, the writer accepts the command so far and makes just
+-- these bytes
+abbrev pub DemandedOf : DirectCommands → List ℕ → List Done → Type 0
+DemandedOf c p [] = (stopWriting c 60 ≡ 0) × (p ≡ payloadOf c)
+DemandedOf c p (done f n r q ∷ ds) =
+    (stopWriting c 60 ≡ 0) × ((p ≡ payloadOf c) × ((r ≡ judged (named c f) n) × (OnlyThere c f p q × DemandedOf (withEdit c f n) q ds)))
+
+-- of a list of edits, by the definition of one
+abbrev pub doneFrom : List ℕ → List Edit → List Done
+doneFrom p [] = []
+doneFrom p (edit f n ∷ es) = done f n (numberIn (editCommand p f n)) (bytesLeft p (editCommand p f n)) ∷ doneFrom (bytesLeft p (editCommand p f n)) es
+
 abbrev pub Demanded : DirectCommands → List ℕ → List Edit → Type 0
-Demanded c p [] = (stopWriting c 60 ≡ 0) × (p ≡ payloadOf c)
-Demanded c p (edit f n ∷ es) =
-    (stopWriting c 60 ≡ 0)
-    × ((p ≡ payloadOf c)
-    × ((numberIn (editCommand p f n) ≡ judged (named c f) n)
-    × (OnlyThere c f p (bytesLeft p (editCommand p f n)) × Demanded (withEdit c f n) (bytesLeft p (editCommand p f n)) es)))
+Demanded c p es = DemandedOf c p (doneFrom p es)
