@@ -30,7 +30,7 @@ pub(crate) fn refused(r: Refusal) -> u32
 pub extern "C" fn crsf_text(bytes: &[u8], text: &mut [u8]) -> u32
     ensures { λ r. ⌜ HandsOut imageOfText (handedOut 52 (length (now (text .entry))) (newText (now (bytes .entry)))) r (now (text .entry)) (now (text .exit)) ⌝ }
 {
-    if text.len() < images::text::SIZE {
+    if text.len() < images::stored::TEXT_SIZE {
         return refused(Refusal::BufferOverflow);
     }
     let a = CommandString::new(bytes);
@@ -38,7 +38,8 @@ pub extern "C" fn crsf_text(bytes: &[u8], text: &mut [u8]) -> u32
     match o {
         Outcome::Accepted => {
             let t = a.text;
-            images::text::put(t, text);
+            let b = t.bytes;
+            images::stored::put(t.len, &b, text);
             0
         }
         Outcome::Refused(n) => refused(n),
@@ -79,7 +80,8 @@ fn make(f: ScreenPopupFields, out: &mut [u8]) -> u32
     match o {
         Outcome::Accepted => {
             let q = a.popup;
-            images::popup::put(q, out);
+            let b = q.bytes;
+            images::stored::put(q.len, &b, out);
             0
         }
         Outcome::Refused(n) => refused(n),

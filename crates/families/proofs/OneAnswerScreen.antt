@@ -27,6 +27,8 @@ use Rattle.families.proofs.screen.made.Reads as made
 use Rattle.families.proofs.screen.made.Kinds as made-kinds
 use Rattle.families.proofs.screen.ScreenPopup.fields.Reads as fields
 use Rattle.families.proofs.screen.ScreenPopup.fields.Kinds as fields-kinds
+use Rattle.families.proofs.screen.ScreenPopupFields.blank.Reads as blank
+use Rattle.families.proofs.screen.ScreenPopupFields.blank.Kinds as blank-kinds
 
 answer-one : (a : Answer ScreenSaid) (x y : ScreenAnswer) → ScreenIs a x → ScreenIs a y → x ≡ y
 answer-one a x y p q = rw (outcome-one (x .outcome) (y .outcome) (p .0 ∙ sym (q .0)), p .1 .0 ∙ sym (q .1 .0), p .1 .1 ∙ sym (q .1 .1))
@@ -59,3 +61,7 @@ fields-one κs a x y s t p q = fields-answer-one (inspect (a .0)) x y p q
 pub new-one : (κs : Lfts 0) (a : Dens κs new-kinds.ps) (x y : resT new-kinds.r κs .Denot) (s t : AtExit (endedOf 0 new-kinds.ps new-kinds.r) κs)
     → new.Post κs a x s → new.Post κs a y t → x ≡ y
 new-one κs a x y s t p q = popup-answer-one (construct (a .0)) x y p q
+
+pub blank-fields-one : (κs : Lfts 0) (a : Dens κs blank-kinds.ps) (x y : resT blank-kinds.r κs .Denot) (s t : AtExit (endedOf 0 blank-kinds.ps blank-kinds.r) κs)
+    → blank.Post κs a x s → blank.Post κs a y t → x ≡ y
+blank-fields-one κs a x y s t p q = p ∙ sym q

@@ -24,7 +24,7 @@ use Rattle.families.specs.Crossfire.{crossfireSays}
 use Rattle.families.specs.FlowControl.{flowSays}
 use Rattle.families.specs.Text.{madeBytes, textOf, newText}
 use Rattle.families.specs.Ack.{ackItems, readAck, ackWith, ackSays, stopAck, newAck, madeInformation}
-use Rattle.families.specs.Fields.{popupOf, construct, inspect, madePopup}
+use Rattle.families.specs.Fields.{popupOf, construct, blankFields, inspect, madePopup}
 use Rattle.families.specs.Screen.{readScreen, ScreenIs, screenBody}
 use Rattle.families.specs.Payload.{familyId}
 use Rattle.families.specs.declared.fc.FcCommand.the-variants.{ScaleChannel}
@@ -36,7 +36,7 @@ use Rattle.families.specs.declared.general.GeneralCommand.the-variants.{
 use Rattle.families.specs.declared.crossfire.CrossfireCommand.the-variants.{ModelSelection, ReplyCurrentModelSelection}
 use Rattle.families.specs.declared.flow_control.FlowControlCommand.the-variants.{Subscribe, Unsubscribe}
 use Rattle.families.specs.declared.ack.CommandAck.{CommandAck}
-use Rattle.families.specs.declared.screen.ScreenAdditionalData.the-variants.{Selection}
+use Rattle.families.specs.declared.screen.ScreenAdditionalData.the-variants.{Absent, Selection}
 use Rattle.families.specs.declared.screen.ScreenPopupFields.{ScreenPopupFields}
 use Rattle.families.specs.declared.screen.ScreenCommand.{ScreenCommand}
 use Rattle.families.specs.declared.screen.ScreenCommand.the-variants.{PopupMessageStart, SelectionReturnValue}
@@ -286,6 +286,11 @@ left-over = refl
 pub close-2 : inspect (popupOf (0 ∷ 0 ∷ 0 ∷ 2 ∷ [])) ≡ refused 5 0
 unfolding readItem
 close-2 = refl
+
+-- ---- ScreenPopupFields::blank (and must-fail/blank_closes)
+-- nothing optional is present, not even `Empty`
+pub blank-absent : blankFields .«additional_data» ≡ Absent
+blank-absent = refl
 
 -- ---- screen::made
 -- the blank popup is none that fields give

@@ -11,7 +11,7 @@ ghost use Rattle.families.specs.Sheets.{screenRows};
 ghost use Rattle.families.specs.Text.{textOf};
 ghost use Rattle.families.specs.Popup.{readPopup};
 ghost use Rattle.families.specs.Places.{SpanIn, spanned, PlacesIn, popupAt, StoredIs};
-ghost use Rattle.families.specs.Fields.{construct, PopupIs, fieldsOf, whole, inspect, isGot, FieldsIs, madePopup};
+ghost use Rattle.families.specs.Fields.{construct, PopupIs, fieldsOf, blankFields, whole, inspect, isGot, FieldsIs, madePopup};
 ghost use Rattle.families.specs.Screen.{returned, readScreen, ScreenIs, screenBody};
 use crate::popup::Places;
 use crate::popup::PopupRead;
@@ -224,12 +224,30 @@ pub fn made(bytes: &[u8], len: usize) -> bool
     false
 }
 
-fn blank_text() -> CommandString
-    ensures { λ r. ⌜ r ≡ textOf [] ⌝ }
-{
-    CommandString {
-        len: 0,
-        bytes: [0u8; 51],
+impl ScreenPopupFields {
+    // "blank popup fields are blank texts, zeros, close flag off and nothing optional present"
+    pub fn blank() -> ScreenPopupFields
+        ensures { λ r. ⌜ r ≡ blankFields ⌝ }
+    {
+        let t = CommandString {
+            len: 0,
+            bytes: [0u8; 51],
+        };
+        ScreenPopupFields {
+            header: t,
+            info: t,
+            max_timeout_interval: 0,
+            close_button_option: false,
+            additional_data: ScreenAdditionalData::Absent,
+            selection_text: t,
+            value: 0,
+            min_value: 0,
+            max_value: 0,
+            default_value: 0,
+            unit: t,
+            has_possible_values: false,
+            possible_values: t,
+        }
     }
 }
 
@@ -238,21 +256,7 @@ fn not_made() -> FieldsAnswer
 {
     FieldsAnswer {
         outcome: Outcome::Refused(Refusal::RecordNotMade),
-        fields: ScreenPopupFields {
-            header: blank_text(),
-            info: blank_text(),
-            max_timeout_interval: 0,
-            close_button_option: false,
-            additional_data: ScreenAdditionalData::Absent,
-            selection_text: blank_text(),
-            value: 0,
-            min_value: 0,
-            max_value: 0,
-            default_value: 0,
-            unit: blank_text(),
-            has_possible_values: false,
-            possible_values: blank_text(),
-        },
+        fields: ScreenPopupFields::blank(),
     }
 }
 

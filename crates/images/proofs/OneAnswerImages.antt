@@ -10,12 +10,10 @@ use Rattle.commands.proofs.OneAnswer.{answer-one}
 use Rattle.images.specs.Popup.{popupFrom}
 use Rattle.images.specs.Fields.{fieldsFrom}
 use Rattle.images.specs.Record.{recordFrom}
-use Rattle.images.proofs.text.put.Reads as text
-use Rattle.images.proofs.text.put.Kinds as text-kinds
+use Rattle.images.proofs.stored.put.Reads as stored
+use Rattle.images.proofs.stored.put.Kinds as stored-kinds
 use Rattle.images.proofs.ack.put.Reads as ack
 use Rattle.images.proofs.ack.put.Kinds as ack-kinds
-use Rattle.images.proofs.popup.put.Reads as popup
-use Rattle.images.proofs.popup.put.Kinds as popup-kinds
 use Rattle.images.proofs.popup.from.Reads as from-popup
 use Rattle.images.proofs.popup.from.Kinds as from-popup-kinds
 use Rattle.images.proofs.fields.put.Reads as fields
@@ -27,17 +25,13 @@ use Rattle.images.proofs.record.put.Kinds as put-record-kinds
 use Rattle.images.proofs.record.from.Reads as from-record
 use Rattle.images.proofs.record.from.Kinds as from-record-kinds
 
-pub text-one : (κs : Lfts 1) (a : Dens κs text-kinds.ps) (x y : resT text-kinds.r κs .Denot) (s t : AtExit (endedOf 1 text-kinds.ps text-kinds.r) κs)
-    → text.Post κs a x s → text.Post κs a y t → now (s .1 .0) ≡ now (t .1 .0)
-text-one κs a x y s t p q = p ∙ sym q
+pub stored-one : (κs : Lfts 2) (a : Dens κs stored-kinds.ps) (x y : resT stored-kinds.r κs .Denot) (s t : AtExit (endedOf 2 stored-kinds.ps stored-kinds.r) κs)
+    → stored.Post κs a x s → stored.Post κs a y t → now (s .1 .1 .0) ≡ now (t .1 .1 .0)
+stored-one κs a x y s t p q = p ∙ sym q
 
 pub ack-one : (κs : Lfts 1) (a : Dens κs ack-kinds.ps) (x y : resT ack-kinds.r κs .Denot) (s t : AtExit (endedOf 1 ack-kinds.ps ack-kinds.r) κs)
     → ack.Post κs a x s → ack.Post κs a y t → now (s .1 .0) ≡ now (t .1 .0)
 ack-one κs a x y s t p q = p ∙ sym q
-
-pub popup-one : (κs : Lfts 1) (a : Dens κs popup-kinds.ps) (x y : resT popup-kinds.r κs .Denot) (s t : AtExit (endedOf 1 popup-kinds.ps popup-kinds.r) κs)
-    → popup.Post κs a x s → popup.Post κs a y t → now (s .1 .0) ≡ now (t .1 .0)
-popup-one κs a x y s t p q = p ∙ sym q
 
 pub from-popup-one : (κs : Lfts 1) (a : Dens κs from-popup-kinds.ps) (x y : resT from-popup-kinds.r κs .Denot) (s t : AtExit (endedOf 1 from-popup-kinds.ps from-popup-kinds.r) κs)
     → from-popup.Post κs a x s → from-popup.Post κs a y t → x ≡ y

@@ -37,7 +37,7 @@ ack-no-room = refl
 pub ack-put : putAt (replicate 57 7) 0 (ackImage (ackWith 1 2 3) 1 (padded 55 (0x41 ∷ []))) ≡ 1 ∷ 2 ∷ 3 ∷ 1 ∷ 0x41 ∷ replicate 51 0 ++ 7 ∷ []
 ack-put = refl
 
--- ---- popup::put
+-- ---- stored::put, of a popup
 pub popup-no-room : putAt (replicate 55 7) 0 (popupImage (popupOf (replicate 4 0))) ≡ replicate 55 7
 popup-no-room = refl
 

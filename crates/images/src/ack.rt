@@ -20,5 +20,5 @@ pub fn put(a: AckAnswer, out: &mut [u8])
     out[0] = a.ack.command_id;
     out[1] = a.ack.sub_command_id;
     out[2] = a.ack.action;
-    crate::text::put_stored(out, 3, a.len, &b[..MOST]);
+    crate::stored::put_at(out, 3, a.len, &b[..MOST]);
 }

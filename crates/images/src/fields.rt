@@ -35,7 +35,7 @@ fn put_text(out: &mut [u8], at: usize, t: CommandString)
     ensures { λ r. ⌜ now (out .exit) ≡ sets (now (out .entry)) at (textImage t) ⌝ }
 {
     let b = t.bytes;
-    crate::text::put_stored(out, at, t.len, &b);
+    crate::stored::put_at(out, at, t.len, &b);
 }
 
 // Header, info, timeout, close, additional.
@@ -173,27 +173,9 @@ fn fields_at(s: &[u8]) -> ScreenPopupFields
 fn not_made() -> FieldsAnswer
     ensures { λ r. ⌜ FieldsIs (refused 5 0) r ⌝ }
 {
-    let t = CommandString {
-        len: 0,
-        bytes: [0u8; 51],
-    };
     FieldsAnswer {
         outcome: Outcome::Refused(Refusal::RecordNotMade),
-        fields: ScreenPopupFields {
-            header: t,
-            info: t,
-            max_timeout_interval: 0,
-            close_button_option: false,
-            additional_data: ScreenAdditionalData::Absent,
-            selection_text: t,
-            value: 0,
-            min_value: 0,
-            max_value: 0,
-            default_value: 0,
-            unit: t,
-            has_possible_values: false,
-            possible_values: t,
-        },
+        fields: ScreenPopupFields::blank(),
     }
 }
 

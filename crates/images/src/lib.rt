@@ -3,5 +3,5 @@ pub mod ack;
 pub mod fields;
 pub mod popup;
 pub mod record;
-pub mod text;
+pub mod stored;
 mod values;

@@ -1,25 +1,13 @@
-// The image of a popup.
+// The image of a popup, which is that of its stored bytes.
 ghost use mathlib.Core.Path.{_≡_};
-ghost use Rattle.codec.specs.Writing.{putAt};
 ghost use Rattle.families.specs.Fields.{PopupIs};
-ghost use Rattle.images.specs.Popup.{popupImage, popupFrom};
+ghost use Rattle.images.specs.Popup.{popupFrom};
 use codec::refusal::Outcome;
 use codec::refusal::Refusal;
 use families::screen::PopupAnswer;
 use families::screen::ScreenPopup;
 
 pub const SIZE: usize = 56;
-
-// The image at the front, where all of it has room.
-pub fn put(q: ScreenPopup, out: &mut [u8])
-    ensures { λ r. ⌜ now (out .exit) ≡ putAt (now (out .entry)) 0 (popupImage q) ⌝ }
-{
-    if out.len() < SIZE {
-        return;
-    }
-    let b = q.bytes;
-    crate::text::put_stored(out, 0, q.len, &b);
-}
 
 // The popup of an image; of other bytes 5, and the blank one.
 pub fn from(image: &[u8]) -> PopupAnswer

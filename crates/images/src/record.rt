@@ -31,7 +31,7 @@ pub fn put(command: DirectCommands, out: &mut [u8])
     out[1] = command.src_addr;
     out[2] = families::payload::command_id(payload);
     codec::writer::put_bytes(out, 3, &values);
-    crate::text::put_stored(out, 14, command.len, &stored);
+    crate::stored::put_at(out, 14, command.len, &stored);
 }
 
 fn same_bytes(a: &[u8], b: &[u8]) -> bool

@@ -27,17 +27,17 @@ slice-write-out-3 c = set-in (set (now (c .before .before .before .args .out)) 0
 array-share-prefix-b : tie.Need-array-share-prefix-b
 array-share-prefix-b c = let l : length (c .before .before .before .before .args .a .bytes) ≡ 55 = search needs in omega arith
 
-slice-aggregate-put-stored : tie.Need-slice-aggregate-put-stored
-slice-aggregate-put-stored c = let l : length (c .before .before .before .before .before .args .a .bytes) ≡ 55 = search needs in sym (length-take-le 52 (c .before .before .before .before .before .args .a .bytes) (omega arith))
+slice-aggregate-put-at : tie.Need-slice-aggregate-put-at
+slice-aggregate-put-at c = let l : length (c .before .before .before .before .before .args .a .bytes) ≡ 55 = search needs in sym (length-take-le 52 (c .before .before .before .before .before .args .a .bytes) (omega arith))
 
-put-stored-requires : tie.Need-put-stored-requires
-put-stored-requires c κs = let l : length (c .before .before .before .before .before .args .a .bytes) ≡ 55 = search needs in rest-in (now (c .before .before .before .before .before .args .out)) (c .before .before .before .before .before .args .a .bytes) (c .before .before .before .before .before .args .a .ack .«command_id») (c .before .before .before .before .before .args .a .ack .«sub_command_id») (c .before .before .before .before .before .args .a .ack .action) l (c .before .before .before .if1 .left)
+put-at-requires : tie.Need-put-at-requires
+put-at-requires c κs = let l : length (c .before .before .before .before .before .args .a .bytes) ≡ 55 = search needs in rest-in (now (c .before .before .before .before .before .args .out)) (c .before .before .before .before .before .args .a .bytes) (c .before .before .before .before .before .args .a .ack .«command_id») (c .before .before .before .before .before .args .a .ack .«sub_command_id») (c .before .before .before .before .before .args .a .ack .action) l (c .before .before .before .if1 .left)
 
 same-length : tie.Need-same-length
-same-length c = let l : length (c .before .before .before .before .before .before .before .before .args .a .bytes) ≡ 55 = search needs in put-kept (now (c .before .before .before .before .before .before .before .before .args .out)) _ (ackImage (c .before .before .before .before .before .before .before .before .args .a .ack) (c .before .before .before .before .before .before .before .before .args .a .len) (c .before .before .before .before .before .before .before .before .args .a .bytes)) (ack-put (now (c .before .before .before .before .before .before .before .before .args .out)) _ (c .before .before .before .before .before .before .before .before .args .a .ack) (c .before .before .before .before .before .before .before .before .args .a .len) (c .before .before .before .before .before .before .before .before .args .a .bytes) l (c .before .before .before .before .before .before .if1 .left) (c .before .before .put-stored .ensures))
+same-length c = let l : length (c .before .before .before .before .before .before .before .before .args .a .bytes) ≡ 55 = search needs in put-kept (now (c .before .before .before .before .before .before .before .before .args .out)) _ (ackImage (c .before .before .before .before .before .before .before .before .args .a .ack) (c .before .before .before .before .before .before .before .before .args .a .len) (c .before .before .before .before .before .before .before .before .args .a .bytes)) (ack-put (now (c .before .before .before .before .before .before .before .before .args .out)) _ (c .before .before .before .before .before .before .before .before .args .a .ack) (c .before .before .before .before .before .before .before .before .args .a .len) (c .before .before .before .before .before .before .before .before .args .a .bytes) l (c .before .before .before .before .before .before .if1 .left) (c .before .before .put-at .ensures))
 
 returns-2 : tie.Need-returns-2
-returns-2 c = let l : length (c .before .before .before .before .before .before .before .before .args .a .bytes) ≡ 55 = search needs in ack-put (now (c .before .before .before .before .before .before .before .before .args .out)) _ (c .before .before .before .before .before .before .before .before .args .a .ack) (c .before .before .before .before .before .before .before .before .args .a .len) (c .before .before .before .before .before .before .before .before .args .a .bytes) l (c .before .before .before .before .before .before .if1 .left) (c .before .before .put-stored .ensures)
+returns-2 c = let l : length (c .before .before .before .before .before .before .before .before .args .a .bytes) ≡ 55 = search needs in ack-put (now (c .before .before .before .before .before .before .before .before .args .out)) _ (c .before .before .before .before .before .before .before .before .args .a .ack) (c .before .before .before .before .before .before .before .before .args .a .len) (c .before .before .before .before .before .before .before .before .args .a .bytes) l (c .before .before .before .before .before .before .if1 .left) (c .before .before .put-at .ensures)
 
 pub put-spec : {M : Type 1} → statement M
 put-spec =
@@ -48,7 +48,7 @@ put-spec =
     slice-write-out-2
     slice-write-out-3
     array-share-prefix-b
-    slice-aggregate-put-stored
-    put-stored-requires
+    slice-aggregate-put-at
+    put-at-requires
     same-length
     returns-2)

@@ -6,11 +6,11 @@ use borrow.Author.Needs.{needs}
 use Rattle.images.proofs.fields.put_text.Statement.{statement}
 use Rattle.images.proofs.fields.put_text.Tie as tie
 
-slice-aggregate-put-stored : tie.Need-slice-aggregate-put-stored
-slice-aggregate-put-stored c = search needs
+slice-aggregate-put-at : tie.Need-slice-aggregate-put-at
+slice-aggregate-put-at c = search needs
 
-put-stored-requires : tie.Need-put-stored-requires
-put-stored-requires c κs = let l : length (c .before .before .before .before .args .t .bytes) ≡ 51 = search needs in omega arith
+put-at-requires : tie.Need-put-at-requires
+put-at-requires c κs = let l : length (c .before .before .before .before .args .t .bytes) ≡ 51 = search needs in omega arith
 
 same-length : tie.Need-same-length
 same-length c = search needs
@@ -20,4 +20,4 @@ returns c = search needs
 
 pub put-text-spec : {M : Type 1} → statement M
 put-text-spec =
-    tie.close (tie.spec slice-aggregate-put-stored put-stored-requires same-length returns)
+    tie.close (tie.spec slice-aggregate-put-at put-at-requires same-length returns)

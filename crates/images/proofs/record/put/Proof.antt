@@ -35,20 +35,20 @@ slice-aggregate-put-bytes c = search needs
 put-bytes-requires : tie.Need-put-bytes-requires
 put-bytes-requires c κs = search needs
 
-slice-aggregate-put-stored : tie.Need-slice-aggregate-put-stored
-slice-aggregate-put-stored c = search needs
+slice-aggregate-put-at : tie.Need-slice-aggregate-put-at
+slice-aggregate-put-at c = search needs
 
-put-stored-requires : tie.Need-put-stored-requires
-put-stored-requires c κs = let l : length (c .before .before .before .before .before .before .before .before .before .before .before .before .args .command .bytes) ≡ 55 = search needs in
+put-at-requires : tie.Need-put-at-requires
+put-at-requires c κs = let l : length (c .before .before .before .before .before .before .before .before .before .before .before .before .args .command .bytes) ≡ 55 = search needs in
     rest-room (now (c .before .before .before .before .before .before .before .before .before .before .before .before .args .out)) _ (c .before .before .before .before .before .before .before .before .payload-laid .result) (c .before .before .before .before .before .before .before .before .before .before .before .before .args .command .bytes) (c .before .before .before .before .before .before .before .before .before .before .before .before .args .command .«dst_addr») (c .before .before .before .before .before .before .before .before .before .before .before .before .args .command .«src_addr») (c .before .before .before .before .before .before .before .command-id .result) l (c .before .before .before .before .before .before .before .before .before .before .if1 .left) (ap length (c .before .before .before .before .before .before .before .before .payload-laid .ensures) ∙ laid-size (c .before .before .before .before .before .before .before .before .before .before .before .before .args .command .payload)) (c .before .before .before .before .put-bytes .ensures)
 
 same-length : tie.Need-same-length
 same-length c = let l : length (c .before .before .before .before .before .before .before .before .before .before .before .before .before .before .before .args .command .bytes) ≡ 55 = search needs in
-    put-kept (now (c .before .before .before .before .before .before .before .before .before .before .before .before .before .before .before .args .out)) _ (recordImage (c .before .before .before .before .before .before .before .before .before .before .before .before .before .before .before .args .command)) (record-put (now (c .before .before .before .before .before .before .before .before .before .before .before .before .before .before .before .args .out)) _ _ (c .before .before .before .before .before .before .before .before .before .before .before .payload-laid .result) (c .before .before .before .before .before .before .before .before .before .before .before .before .before .before .before .args .command) (c .before .before .before .before .before .before .before .before .before .before .command-id .result) l (c .before .before .before .before .before .before .before .before .before .before .before .before .before .if1 .left) (c .before .before .before .before .before .before .before .before .before .before .before .payload-laid .ensures) (c .before .before .before .before .before .before .before .before .before .before .command-id .ensures) (c .before .before .before .before .before .before .before .put-bytes .ensures) (c .before .before .put-stored .ensures))
+    put-kept (now (c .before .before .before .before .before .before .before .before .before .before .before .before .before .before .before .args .out)) _ (recordImage (c .before .before .before .before .before .before .before .before .before .before .before .before .before .before .before .args .command)) (record-put (now (c .before .before .before .before .before .before .before .before .before .before .before .before .before .before .before .args .out)) _ _ (c .before .before .before .before .before .before .before .before .before .before .before .payload-laid .result) (c .before .before .before .before .before .before .before .before .before .before .before .before .before .before .before .args .command) (c .before .before .before .before .before .before .before .before .before .before .command-id .result) l (c .before .before .before .before .before .before .before .before .before .before .before .before .before .if1 .left) (c .before .before .before .before .before .before .before .before .before .before .before .payload-laid .ensures) (c .before .before .before .before .before .before .before .before .before .before .command-id .ensures) (c .before .before .before .before .before .before .before .put-bytes .ensures) (c .before .before .put-at .ensures))
 
 returns-2 : tie.Need-returns-2
 returns-2 c = let l : length (c .before .before .before .before .before .before .before .before .before .before .before .before .before .before .before .args .command .bytes) ≡ 55 = search needs in
-    record-put (now (c .before .before .before .before .before .before .before .before .before .before .before .before .before .before .before .args .out)) _ _ (c .before .before .before .before .before .before .before .before .before .before .before .payload-laid .result) (c .before .before .before .before .before .before .before .before .before .before .before .before .before .before .before .args .command) (c .before .before .before .before .before .before .before .before .before .before .command-id .result) l (c .before .before .before .before .before .before .before .before .before .before .before .before .before .if1 .left) (c .before .before .before .before .before .before .before .before .before .before .before .payload-laid .ensures) (c .before .before .before .before .before .before .before .before .before .before .command-id .ensures) (c .before .before .before .before .before .before .before .put-bytes .ensures) (c .before .before .put-stored .ensures)
+    record-put (now (c .before .before .before .before .before .before .before .before .before .before .before .before .before .before .before .args .out)) _ _ (c .before .before .before .before .before .before .before .before .before .before .before .payload-laid .result) (c .before .before .before .before .before .before .before .before .before .before .before .before .before .before .before .args .command) (c .before .before .before .before .before .before .before .before .before .before .command-id .result) l (c .before .before .before .before .before .before .before .before .before .before .before .before .before .if1 .left) (c .before .before .before .before .before .before .before .before .before .before .before .payload-laid .ensures) (c .before .before .before .before .before .before .before .before .before .before .command-id .ensures) (c .before .before .before .before .before .before .before .put-bytes .ensures) (c .before .before .put-at .ensures)
 
 pub put-spec : {M : Type 1} → statement M
 put-spec =
@@ -62,7 +62,7 @@ put-spec =
     slice-write-out-3
     slice-aggregate-put-bytes
     put-bytes-requires
-    slice-aggregate-put-stored
-    put-stored-requires
+    slice-aggregate-put-at
+    put-at-requires
     same-length
     returns-2)

@@ -4,8 +4,8 @@ use Rattle.codec.proofs.Loops.{kept}
 use Rattle.images.specs.Text.{stored}
 use denote.Ref.{now}
 use borrow.Author.Needs.{needs}
-use Rattle.images.proofs.text.put_stored.Statement.{statement}
-use Rattle.images.proofs.text.put_stored.Tie as tie
+use Rattle.images.proofs.stored.put_at.Statement.{statement}
+use Rattle.images.proofs.stored.put_at.Tie as tie
 
 cast-out : tie.Need-cast-out
 cast-out c = search needs
@@ -25,7 +25,7 @@ same-length c = kept (now (c .before .before .before .before .before .before .ar
 returns : tie.Need-returns
 returns c = stored-put (now (c .before .before .before .before .before .before .args .out)) _ (now (c .before .before .before .before .before .before .args .b)) (c .before .before .before .before .before .before .args .at) (c .before .before .before .before .before .before .args .n) (c .before .before .before .before .before .before .pre) (c .before .before .put-bytes .ensures)
 
-pub put-stored-spec : {M : Type 1} → statement M
-put-stored-spec =
+pub put-at-spec : {M : Type 1} → statement M
+put-at-spec =
     tie.close
     (tie.spec cast-out slice-write-out add-put-bytes put-bytes-requires same-length returns)
