@@ -9,9 +9,17 @@ use Rattle.images.specs.Text.{textImage, imageOfText}
 use Rattle.images.proofs.TextLaws.{text-size}
 use Rattle.crsf.proofs.Handed.{short, in-room, refuses, hands}
 use Rattle.crsf.proofs.Refusals.{text-some}
+use contract.Lifetimes.{Lfts}
+use borrow.Fn.Kinds.{Dens, Plain}
 use borrow.Author.Needs.{needs}
 use Rattle.crsf.proofs.made.crsf_text.Statement.{statement}
 use Rattle.crsf.proofs.made.crsf_text.Tie as tie
+use Rattle.crsf.proofs.made.crsf_text.Lts as lts
+
+-- the array keeps its length
+long : {k : lts.Claims} {P : (κs : Lfts 2) → Dens κs lts.ps → Type 0} {Q : (κs : Lfts 2) → Dens κs lts.ps → Plain 2 lts.ps lts.r κs} (made : lts.After-new k P Q)
+    → length (made .new .result .text .bytes) ≡ 51
+long made = search needs
 
 refused-requires : tie.Need-refused-requires
 refused-requires c κs = search needs
@@ -24,6 +32,9 @@ new-requires c κs = search needs
 
 enum-told : tie.Need-enum-told
 enum-told c = search needs
+
+slice-aggregate-put : tie.Need-slice-aggregate-put
+slice-aggregate-put c = search needs
 
 put-requires : tie.Need-put-requires
 put-requires c κs = search needs
@@ -38,9 +49,13 @@ same-length : tie.Need-same-length
 same-length c = search needs
 
 returns-2 : tie.Need-returns-2
-returns-2 c = let l : length (c .before .before .before .before .before .before .before .new .result .text .bytes) ≡ 51 = search needs in
-    let a = newText (now (c .before .before .before .before .before .before .before .before .before .before .before .args .bytes)) in
-    in-room imageOfText (now (c .before .before .before .before .before .before .before .before .before .before .before .args .text)) a 52 0 _ (c .before .before .before .before .before .before .before .before .if1 .left) (hands imageOfText (now (c .before .before .before .before .before .before .before .before .before .before .before .args .text)) a [] (textImage (c .before .before .before .before .before .before .before .new .result .text)) _ (text-some (now (c .before .before .before .before .before .before .before .before .before .before .before .args .bytes))) (rw (c .before .before .before .before .before .enum-told .given .1) at (c .before .before .before .before .before .before .before .new .ensures .0)) (ap textImage (c .before .before .before .before .before .before .before .new .ensures .1)) (omega (arith, text-size (c .before .before .before .before .before .before .before .new .result .text) l)) (c .before .before .put .ensures))
+returns-2 c =
+    let at-told = c .before .before .before .before .before .before .before in
+    let made = at-told .before .before in
+    let start = made .before .before .before .before in
+    let l = long made in
+    let a = newText (now (start .args .bytes)) in
+    in-room imageOfText (now (start .args .text)) a 52 0 _ (made .before .if1 .left) (hands imageOfText (now (start .args .text)) a [] (textImage (made .new .result .text)) _ (text-some (now (start .args .bytes))) (rw (at-told .enum-told .given .1) at (made .new .ensures .0)) (ap textImage (made .new .ensures .1)) (omega (arith, text-size (made .new .result .text) l)) (c .before .before .put .ensures))
 
 returns-3 : tie.Need-returns-3
 returns-3 c = let a = newText (now (c .before .before .before .before .before .before .before .before .args .bytes)) in
@@ -54,6 +69,7 @@ crsf-text-spec =
     returns
     new-requires
     enum-told
+    slice-aggregate-put
     put-requires
     enum-known-o
     refused-requires-2
