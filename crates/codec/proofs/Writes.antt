@@ -12,8 +12,8 @@ use Rattle.codec.specs.Pick.{pick}
 use Rattle.codec.specs.Digits.{bytesOf}
 use Rattle.codec.specs.Sheet.{Row, said, Answer, got, refused, first}
 use Rattle.codec.specs.Writing.{okItems, itemsOf, writeBody, counted, putAt, stopRoom, stopInOrder, stopValuesFirst}
-use Rattle.codec.specs.Refusals.{refusalNumber}
-use Rattle.codec.specs.Told.{toldNumber, toldFlag, toldWritten, Writes}
+use Rattle.codec.specs.Refusals.{refusalNumber, numbered}
+use Rattle.codec.specs.Told.{toldNumber, toldFlag, toldWritten, writtenOut, countOut, Writes}
 use Rattle.codec.specs.declared.refusal.Refusal.{Refusal}
 use Rattle.codec.specs.declared.refusal.Refusal.the-variants.{InvalidPayloadLength, InvalidPayload, BufferOverflow, FamilyLeftBehind, RecordNotMade, NotAsWritten, NoSuchField, NumberOutsideRange}
 use Rattle.codec.specs.declared.reader.NumberRead.{NumberRead}
@@ -84,10 +84,20 @@ pub written-told : (r : Written) → writtenTold (toldWritten r) ≡ r
 written-told (Count n) = refl
 written-told (RefusedWrite r) = ap RefusedWrite (refusal-back r)
 
+-- number and count, and the answer that they are of
+pub out-some : (r : Refusal) (n : ℕ) → writtenOut (RefusedWrite r) ≡ countOut 0 n → ⊥
+out-some r n e = let d : refusalNumber r ≡ 0 = cc in omega (arith, refusal-some r)
+
+pub out-told : (r : Written) (stop n : ℕ) → writtenOut r ≡ countOut stop n → toldWritten r ≡ counted stop n
+out-told (Count k) zero n e = let d : k ≡ n = cc in ap (λ (x : ℕ). got x) d
+out-told (Count k) (suc stop) n e = let z : _≡_ {A = ℕ} 0 1 = cc in absurd (omega arith)
+out-told (RefusedWrite r) zero n e = absurd (out-some r n e)
+out-told (RefusedWrite r) (suc stop) n e = let d : refusalNumber r ≡ suc stop = cc in ap (λ (x : ℕ). refused x 0) d
+
 -- writing has one answer, and leaves one buffer
 pub writes-one : (stop : ℕ) (w : List ℕ) (x y : Written) (s p q : List ℕ) → Writes stop w x s p → Writes stop w y s q → (x ≡ y) × (p ≡ q)
 writes-one stop w x y s p q g h =
-    (sym (written-told x) ∙ ap writtenTold (g .0 ∙ sym (h .0)) ∙ written-told y, g .1 ∙ sym (h .1))
+    (sym (written-told x) ∙ ap writtenTold (out-told x stop (length w) (g .0) ∙ sym (out-told y stop (length w) (h .0))) ∙ written-told y, g .1 ∙ sym (h .1))
 
 -- ---- putting
 pub put-fits : (s : List ℕ) (at : ℕ) (w : List ℕ) → at + length w ≤ length s → putAt s at w ≡ sets s at w
@@ -132,12 +142,12 @@ free zero n m h = (refl, cc)
 free (suc k) n m h = let z : _≡_ {A = ℕ} 0 1 = cc in absurd (omega arith)
 
 pub writes-count : (stop n : ℕ) (w s s' : List ℕ) → got n ≡ counted stop (length w) → s' ≡ sets s 0 w → Writes stop w (Count n) s s'
-writes-count zero n w s s' h e = (h, e)
+writes-count zero n w s s' h e = let d : n ≡ length w = cc in (ap (λ (x : ℕ). numbered 0 x) d, e)
 writes-count (suc k) n w s s' h e = let z : _≡_ {A = ℕ} 0 1 = cc in absurd (omega arith)
 
 pub writes-refused : (stop : ℕ) (w s : List ℕ) (r : Refusal) → refused (refusalNumber r) 0 ≡ counted stop (length w) → Writes stop w (RefusedWrite r) s s
 writes-refused zero w s r h = let z : _≡_ {A = ℕ} 0 1 = cc in absurd (omega arith)
-writes-refused (suc k) w s r h = (h, refl)
+writes-refused (suc k) w s r h = let d : refusalNumber r ≡ suc k = cc in (ap (λ (x : ℕ). numbered x 0) d, refl)
 
 -- where only the room is looked at
 pub room-there : (room n : ℕ) → n ≤ room → stopRoom room n ≡ 0

@@ -29,3 +29,7 @@ numberIn (refused n p) = n
 abbrev pub valueIn : {A : Type 0} → A → Answer A → A
 valueIn blank (got a) = a
 valueIn blank (refused n p) = blank
+
+-- what an answer sets out: 01's number, and the value that comes with it
+pub data SetOut (A : Type 0) : Type 0 where
+  numbered : ℕ → A → SetOut A

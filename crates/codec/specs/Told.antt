@@ -1,13 +1,13 @@
 -- What the answers of the code say in document 01's terms: number and values for each case. Assumes nothing.
-use Prim.Native.Nat.{ℕ, _+_, _≤_, _<_}
+use Prim.Native.Nat.{ℕ, zero, suc, _+_, _≤_, _<_}
 use mathlib.Core.Bool.{Bool}
 use mathlib.Core.Path.{_≡_}
 use mathlib.Core.List.{List, [], _∷_}
 use lib.ListN.{length, take, drop}
 use Rattle.codec.specs.Pick.{pick}
 use Rattle.codec.specs.Sheet.{Answer, got, refused}
-use Rattle.codec.specs.Writing.{counted, leaves}
-use Rattle.codec.specs.Refusals.{refusalNumber}
+use Rattle.codec.specs.Writing.{leaves}
+use Rattle.codec.specs.Refusals.{refusalNumber, SetOut, numbered}
 use Rattle.codec.specs.declared.reader.Width.{Width}
 use Rattle.codec.specs.declared.reader.Width.the-variants.{One, Two, Three, Four}
 use Rattle.codec.specs.declared.reader.NumberRead.{NumberRead}
@@ -56,6 +56,15 @@ abbrev pub toldWritten : Written → Answer ℕ
 toldWritten (Count n) = got n
 toldWritten (RefusedWrite r) = refused (refusalNumber r) 0
 
+-- its number and its count: "With each number come .. a count of 0"
+abbrev pub writtenOut : Written → SetOut ℕ
+writtenOut (Count n) = numbered 0 n
+writtenOut (RefusedWrite r) = numbered (refusalNumber r) 0
+
+abbrev pub countOut : ℕ → ℕ → SetOut ℕ
+countOut zero n = numbered 0 n
+countOut (suc stop) n = numbered (suc stop) 0
+
 -- WRITING these bytes, unless that number stops it, answers r and leaves s' of s
 abbrev pub Writes : ℕ → List ℕ → Written → List ℕ → List ℕ → Type 0
-Writes stop w r s s' = (toldWritten r ≡ counted stop (length w)) × (s' ≡ leaves stop w s)
+Writes stop w r s s' = (writtenOut r ≡ countOut stop (length w)) × (s' ≡ leaves stop w s)

@@ -20,7 +20,7 @@ use Rattle.codec.specs.declared.refusal.Refusal.{Refusal}
 use Rattle.codec.specs.declared.writer.Written.{Written}
 use Rattle.codec.specs.declared.writer.Written.the-variants.{Count}
 use Rattle.codec.proofs.Outcomes.{outcome-one}
-use Rattle.codec.proofs.Writes.{refusal-some, writtenTold, written-told, free}
+use Rattle.codec.proofs.Writes.{refusal-some, writtenTold, written-told, out-told, free}
 use Rattle.families.specs.Payload.{familyId}
 use Rattle.commands.specs.Reading.{readCommand, CommandIs}
 use Rattle.commands.specs.Writing.{layoutOf, writingOrder, payloadOf, stopWriting}
@@ -39,7 +39,7 @@ room = replicate 7 0
 
 -- where nothing stops it, a writer counts its bytes and puts them in front
 earned : (r : Written) (w s s' : List ℕ) → Writes 0 w r s s' → (r ≡ Count (length w)) × (s' ≡ sets s 0 w)
-earned r w s s' h = (sym (written-told r) ∙ ap writtenTold (h .0), h .1)
+earned r w s s' h = (sym (written-told r) ∙ ap writtenTold (out-told r 0 (length w) (h .0)), h .1)
 
 module _ (κs : Lfts 1) where
   -- the contract of from_bytes allows this answer to these bytes
@@ -112,4 +112,4 @@ module _ (κs : Lfts 1) where
       omega arith
 
   pub counts-other : (c : DirectCommands) (s s' : List ℕ) (n : ℕ) → (n ≡ length (payloadOf c) → ⊥) → Leaves c s (Count n) s' → ⊥
-  counts-other c s s' n other h = other (free (stopWriting c (length s)) n (length (payloadOf c)) (writes c s s' (Count n) h .0) .1)
+  counts-other c s s' n other h = other (free (stopWriting c (length s)) n (length (payloadOf c)) (out-told (Count n) (stopWriting c (length s)) (length (payloadOf c)) (writes c s s' (Count n) h .0)) .1)

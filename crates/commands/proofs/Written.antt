@@ -13,7 +13,7 @@ use Rattle.codec.specs.Told.{Writes}
 use Rattle.codec.specs.declared.refusal.Refusal.{Refusal}
 use Rattle.codec.specs.declared.writer.Written.the-variants.{Count, Refused}
 use Rattle.codec.proofs.Stops.{in-order-fits, values-first-fits}
-use Rattle.codec.proofs.Writes.{free}
+use Rattle.codec.proofs.Writes.{out-some, out-told, free}
 use Rattle.codec.proofs.InTurn.{writes-all}
 use Rattle.families.specs.Sheets.{fcRows, osdRows, vtxRows, ledRows, generalRows, crossfireRows, flowRows}
 use Rattle.families.specs.Fc.{fcSays}
@@ -63,7 +63,7 @@ pub body-in : (p : CommandPayload) (t s q : List ℕ) (k n : ℕ) → k + 4 ≤ 
 body-in p t s q k n h e =
     let w = bodyOf p t in
     let g = rw (mid-length s k h) at e in
-    let f = free (stopBody p t k) n (length w) (g .0) in
+    let f = free (stopBody p t k) n (length w) (out-told (Count n) (stopBody p t k) (length w) (g .0)) in
     let b = body-fits p t k (f .0) in
     let x : q ≡ sets (take k (drop 3 s)) 0 w = rw (f .0) at (g .1) in
     (f .0, (f .1, (omega arith, rw x (part-put s w 3 k (omega arith) b))))
@@ -95,7 +95,7 @@ body-refused dst src p t s q k why r h e =
     by (stopBody p t (roomOf (length s))) (rw m at e)
   where
     by : (stop : ℕ) → Writes stop (bodyOf p t) (Refused why) (take k (drop 3 s)) q → Writes stop (checked (opening dst src p t)) (Refused why) s (putMid 3 k s q)
-    by zero g = let z : _≡_ {A = ℕ} 0 1 = cc in absurd (omega arith)
+    by zero g = absurd (out-some why (length (bodyOf p t)) (g .0))
     by (suc n) g = (g .0, rw (g .1) (put-same 3 k s))
 
 -- the order of writing: "Record not made: 5. Buffer below 4: 3."

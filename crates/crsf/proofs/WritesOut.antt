@@ -10,7 +10,7 @@ use Rattle.codec.specs.Told.{Writes, toldWritten}
 use Rattle.codec.specs.declared.refusal.Outcome.the-variants.{Accepted, Refused}
 use Rattle.codec.specs.declared.refusal.Refusal.{Refusal}
 use Rattle.codec.specs.declared.writer.Written.{Written}
-use Rattle.codec.proofs.Writes.{refusal-some}
+use Rattle.codec.proofs.Writes.{refusal-some, out-told}
 use Rattle.commands.specs.Command.{blankCommand}
 use Rattle.commands.specs.Reading.{CommandIs}
 use Rattle.commands.specs.Writing.{payloadOf, stopWriting}
@@ -26,7 +26,7 @@ module _ (a : Answer DirectCommands) (g : Some a) (x : CommandAnswer) (i : Comma
       → Writes (stopWriting (x .command) (length s)) (payloadOf (x .command)) w s s' → r ≡ answerWord (toldWritten w) → WritesOut a r s s'
   writes-on w r s s' e h f =
       let z : a ≡ got (x .command) = zero-value a blankCommand g (sym (i .0) ∙ ap outcomeNumber e) ∙ ap (λ (c : DirectCommands). got c) (sym (i .1)) in
-      rw z (f ∙ ap answerWord (h .0), h .1)
+      rw z (f ∙ ap answerWord (out-told w (stopWriting (x .command) (length s)) (length (payloadOf (x .command))) (h .0)), h .1)
 
   pub writes-not : (why : Refusal) (r : ℕ) (s : List ℕ) → x .outcome ≡ Refused why → r ≡ refusalNumber why → WritesOut a r s s
   writes-not why r s e f = by a g (sym (i .0) ∙ ap outcomeNumber e)

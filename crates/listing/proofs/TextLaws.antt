@@ -17,7 +17,7 @@ use Rattle.codec.specs.declared.writer.Written.{Written}
 use Rattle.codec.specs.declared.writer.Written.the-variants.{Count, Refused as RefusedWrite}
 use Rattle.codec.specs.declared.refusal.Refusal.the-variants.{BufferOverflow}
 use Rattle.codec.proofs.InTurn.{writes-stop, writes-all, item-goes}
-use Rattle.codec.proofs.Writes.{put-fits}
+use Rattle.codec.proofs.Writes.{put-fits, out-told}
 use Rattle.listing.specs.Text.{digits, decimal}
 
 front : (s w : List ℕ) (a at : ℕ) → a + length w ≡ at → at ≤ length s → drop a (sets s a w) ≡ w ++ drop at s
@@ -128,6 +128,6 @@ text-put t w s s' part start l e h g f =
 -- what is counted had room
 pub written-fits : (r : Written) (k : ℕ) (w s s' : List ℕ) → Writes (stopRoom (length s) (length w)) w r s s' → r ≡ Count k → k ≤ length s
 written-fits r k w s s' h e =
-    let g : got k ≡ counted (stopRoom (length s) (length w)) (length w) = sym (ap toldWritten e) ∙ h .0 in
+    let g : got k ≡ counted (stopRoom (length s) (length w)) (length w) = sym (ap toldWritten e) ∙ out-told r (stopRoom (length s) (length w)) (length w) (h .0) in
     let i = item-goes true (length s) (length w) 0 k g in
     omega (arith, i .1 .0, i .1 .1)
