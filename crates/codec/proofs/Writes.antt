@@ -12,7 +12,7 @@ use Rattle.codec.specs.Pick.{pick}
 use Rattle.codec.specs.Digits.{bytesOf}
 use Rattle.codec.specs.Sheet.{Row, said, Answer, got, refused, first}
 use Rattle.codec.specs.Writing.{okItems, itemsOf, writeBody, counted, putAt, stopRoom, stopInOrder, stopValuesFirst}
-use Rattle.codec.specs.Refusals.{refusalNumber, numbered}
+use Rattle.codec.specs.Refusals.{refusalNumber, SetOut, numbered}
 use Rattle.codec.specs.Told.{toldNumber, toldFlag, toldWritten, writtenOut, countOut, Writes}
 use Rattle.codec.specs.declared.refusal.Refusal.{Refusal}
 use Rattle.codec.specs.declared.refusal.Refusal.the-variants.{InvalidPayloadLength, InvalidPayload, BufferOverflow, FamilyLeftBehind, RecordNotMade, NotAsWritten, NoSuchField, NumberOutsideRange}
@@ -94,10 +94,28 @@ out-told (Count k) (suc stop) n e = let z : _≡_ {A = ℕ} 0 1 = cc in absurd (
 out-told (RefusedWrite r) zero n e = absurd (out-some r n e)
 out-told (RefusedWrite r) (suc stop) n e = let d : refusalNumber r ≡ suc stop = cc in ap (λ (x : ℕ). refused x 0) d
 
+abbrev pub outWritten : SetOut ℕ → Written
+outWritten (numbered zero n) = Count n
+outWritten (numbered (suc k) n) = RefusedWrite (refusalOf (suc k))
+
+out-back : (r : Written) → outWritten (writtenOut r) ≡ r
+out-back (Count n) = refl
+out-back (RefusedWrite InvalidPayloadLength) = refl
+out-back (RefusedWrite InvalidPayload) = refl
+out-back (RefusedWrite BufferOverflow) = refl
+out-back (RefusedWrite FamilyLeftBehind) = refl
+out-back (RefusedWrite RecordNotMade) = refl
+out-back (RefusedWrite NotAsWritten) = refl
+out-back (RefusedWrite NoSuchField) = refl
+out-back (RefusedWrite NumberOutsideRange) = refl
+
+pub written-fixed : (x y : Written) (a : SetOut ℕ) → writtenOut x ≡ a → writtenOut y ≡ a → x ≡ y
+written-fixed x y a e f = sym (out-back x) ∙ ap outWritten (e ∙ sym f) ∙ out-back y
+
 -- writing has one answer, and leaves one buffer
 pub writes-one : (stop : ℕ) (w : List ℕ) (x y : Written) (s p q : List ℕ) → Writes stop w x s p → Writes stop w y s q → (x ≡ y) × (p ≡ q)
 writes-one stop w x y s p q g h =
-    (sym (written-told x) ∙ ap writtenTold (out-told x stop (length w) (g .0) ∙ sym (out-told y stop (length w) (h .0))) ∙ written-told y, g .1 ∙ sym (h .1))
+    (written-fixed x y (countOut stop (length w)) (g .0) (h .0), g .1 ∙ sym (h .1))
 
 -- ---- putting
 pub put-fits : (s : List ℕ) (at : ℕ) (w : List ℕ) → at + length w ≤ length s → putAt s at w ≡ sets s at w

@@ -7,7 +7,7 @@ use denote.Triple.Clauses.{AtExit}
 use denote.Ref.{now}
 use Rattle.codec.specs.Sheet.{Answer, got, refused, Said}
 use Rattle.codec.proofs.Writes.{refusalOf, refusal-back}
-use Rattle.codec.proofs.OneAnswer.{written-fixed}
+use Rattle.codec.proofs.Writes.{written-fixed}
 use Rattle.families.specs.Fc.{toldFc, fcOf}
 use Rattle.families.specs.Osd.{toldOsd, osdOf}
 use Rattle.families.specs.Vtx.{toldVtx, vtxOf}

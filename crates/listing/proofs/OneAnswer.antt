@@ -5,7 +5,7 @@ use contract.Lifetimes.{Lfts}
 use borrow.Fn.Kinds.{Dens, resT, endedOf}
 use denote.Triple.Clauses.{AtExit}
 use denote.Ref.{now}
-use Rattle.codec.proofs.OneAnswer.{written-fixed}
+use Rattle.codec.proofs.Writes.{written-fixed}
 use Rattle.listing.proofs.Listing.new.Reads as new
 use Rattle.listing.proofs.Listing.new.Kinds as new-kinds
 use Rattle.listing.proofs.Listing.next.Reads as next
