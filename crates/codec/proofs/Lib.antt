@@ -12,6 +12,7 @@ pub mod Joins
 pub mod Writes
 pub mod Packed
 pub mod InTurn
+pub mod InRow
 pub mod Unpacked
 pub mod OneAnswer
 pub mod Refused
@@ -20,5 +21,7 @@ pub mod Outcomes
 pub mod Bounds
 pub mod ReadJoin
 pub mod There
+pub mod Method
 pub mod Lent
+pub mod Straight
 pub mod RuledOut

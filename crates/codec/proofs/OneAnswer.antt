@@ -19,8 +19,10 @@ use denote.Triple.Walked.{needs}
 use denote.Ref.{RefT, now}
 use lib.ListN.{length, take, drop, length-drop}
 use lib.Seq.{length-take-le}
-use Rattle.codec.specs.Sheet.{Answer, got, refused}
+use Rattle.codec.specs.Sheet.{Item, Answer, got, refused}
+use Rattle.codec.specs.Reading.{readItem}
 use Rattle.codec.specs.Told.{toldNumber, toldFlag, toldText, textIn, toldWritten}
+use Rattle.codec.specs.Taking.{behindItem}
 use Rattle.codec.specs.declared.reader.NumberRead.{NumberRead}
 use Rattle.codec.specs.declared.reader.FlagRead.{FlagRead}
 use Rattle.codec.specs.declared.reader.TextRead.{TextRead}
@@ -49,7 +51,12 @@ use Rattle.codec.proofs.writer.write_alone.Kinds as write-alone-kinds
 use Rattle.codec.proofs.writer.write_with_byte.Reads as write-with-byte
 use Rattle.codec.proofs.writer.write_with_byte.Kinds as write-with-byte-kinds
 use Rattle.codec.proofs.reader.Reader.new as reader-new
-use Rattle.codec.proofs.reader.Reader.number as reader-number
+use Rattle.codec.proofs.reader.Reader.byte as reader-byte
+use Rattle.codec.proofs.reader.Reader.u16 as reader-u16
+use Rattle.codec.proofs.reader.Reader.u24 as reader-u24
+use Rattle.codec.proofs.reader.Reader.u32 as reader-u32
+use Rattle.codec.proofs.reader.Reader.boolean as reader-boolean
+use Rattle.codec.proofs.reader.Reader.string as reader-string
 
 -- what is told fixes the answer
 number-fixed : (x y : NumberRead) (a : Answer (List ℕ)) → toldNumber x ≡ a → toldNumber y ≡ a → x ≡ y
@@ -124,10 +131,14 @@ pub write-with-byte-one : (κs : Lfts 1) (a : Dens κs write-with-byte-kinds.ps)
     → write-with-byte.Post κs a x s → write-with-byte.Post κs a y t → (x ≡ y) × (now (s .1 .1 .0) ≡ now (t .1 .1 .0))
 write-with-byte-one κs a x y s t p q = (written-fixed x y _ (p .0) (q .0), p .1 ∙ sym (q .1))
 
--- ---- the two of `Reader`, whose proofs are walks: they have no `Post`. `clauses` is their contract, as read from the source; its `ensures` is
+-- ---- those of `Reader`, whose proofs are walks: they have no `Post`. `clauses` is their contract, as read from the source; its `ensures` is
 -- an assertion, and where it holds of two answers they are one
 both-say : {M : Type 1} (𝓤 : URA M) (φ ψ χ : Type 0) → (φ → ψ → χ) → ent 𝓤 (sep 𝓤 (fact 𝓤 φ) (fact 𝓤 ψ)) (fact 𝓤 χ)
 both-say 𝓤 φ ψ χ f = needs 𝓤 ψ (fact 𝓤 φ) (λ q. fact-mono 𝓤 φ χ (λ p. f p q))
+
+-- two takings of an item leave the same bytes
+taken-same : (i : Item) (s : List ℕ) {a b : Answer (List ℕ)} {s' s'' : List ℕ} → a ≡ readItem i s → b ≡ readItem i s → s' ≡ behindItem i a s → s'' ≡ behindItem i b s → s' ≡ s''
+taken-same i s p q f g = f ∙ ap (λ (x : Answer (List ℕ)). behindItem i x s) (p ∙ sym q) ∙ sym g
 
 abbrev holding : RefT (List ℕ) → Reader
 holding s = record { remaining = s }
@@ -137,7 +148,32 @@ module _ {M : Type 1} (𝓤 : URA M) (H : Heap 𝓤) (A : Atoms 𝓤) (mem : Mem
       → ent 𝓤 (sep 𝓤 (reader-new.clauses 𝓤 H A mem run κs a .ensures tt x s) (reader-new.clauses 𝓤 H A mem run κs a .ensures tt y t)) (fact 𝓤 (x ≡ y))
   reader-new-one κs a x y s t = both-say 𝓤 _ _ (x ≡ y) (λ p q. ap holding (p ∙ sym q))
 
-  pub reader-number-one : (κs : Lfts 2) (a : Args reader-number.signature κs) (x y : Res reader-number.signature κs) (s t : AtExit reader-number.ended κs)
-      → ent 𝓤 (sep 𝓤 (reader-number.clauses 𝓤 H A mem run κs a .ensures tt x s) (reader-number.clauses 𝓤 H A mem run κs a .ensures tt y t))
+  pub reader-byte-one : (κs : Lfts 2) (a : Args reader-byte.signature κs) (x y : Res reader-byte.signature κs) (s t : AtExit reader-byte.ended κs)
+      → ent 𝓤 (sep 𝓤 (reader-byte.clauses 𝓤 H A mem run κs a .ensures tt x s) (reader-byte.clauses 𝓤 H A mem run κs a .ensures tt y t))
       (fact 𝓤 ((x ≡ y) × (now (now (s .0) .remaining) ≡ now (now (t .0) .remaining))))
-  reader-number-one κs a x y s t = both-say 𝓤 _ _ _ (λ p q. (number-fixed x y _ (p .0 .0) (q .0 .0), p .1 ∙ sym (q .1)))
+  reader-byte-one κs a x y s t = both-say 𝓤 _ _ _ (λ p q. (number-fixed x y _ (p .0 .0) (q .0 .0), taken-same _ _ (p .0 .0) (q .0 .0) (p .0 .1) (q .0 .1)))
+
+  pub reader-u16-one : (κs : Lfts 2) (a : Args reader-u16.signature κs) (x y : Res reader-u16.signature κs) (s t : AtExit reader-u16.ended κs)
+      → ent 𝓤 (sep 𝓤 (reader-u16.clauses 𝓤 H A mem run κs a .ensures tt x s) (reader-u16.clauses 𝓤 H A mem run κs a .ensures tt y t))
+      (fact 𝓤 ((x ≡ y) × (now (now (s .0) .remaining) ≡ now (now (t .0) .remaining))))
+  reader-u16-one κs a x y s t = both-say 𝓤 _ _ _ (λ p q. (number-fixed x y _ (p .0 .0) (q .0 .0), taken-same _ _ (p .0 .0) (q .0 .0) (p .0 .1) (q .0 .1)))
+
+  pub reader-u24-one : (κs : Lfts 2) (a : Args reader-u24.signature κs) (x y : Res reader-u24.signature κs) (s t : AtExit reader-u24.ended κs)
+      → ent 𝓤 (sep 𝓤 (reader-u24.clauses 𝓤 H A mem run κs a .ensures tt x s) (reader-u24.clauses 𝓤 H A mem run κs a .ensures tt y t))
+      (fact 𝓤 ((x ≡ y) × (now (now (s .0) .remaining) ≡ now (now (t .0) .remaining))))
+  reader-u24-one κs a x y s t = both-say 𝓤 _ _ _ (λ p q. (number-fixed x y _ (p .0 .0) (q .0 .0), taken-same _ _ (p .0 .0) (q .0 .0) (p .0 .1) (q .0 .1)))
+
+  pub reader-u32-one : (κs : Lfts 2) (a : Args reader-u32.signature κs) (x y : Res reader-u32.signature κs) (s t : AtExit reader-u32.ended κs)
+      → ent 𝓤 (sep 𝓤 (reader-u32.clauses 𝓤 H A mem run κs a .ensures tt x s) (reader-u32.clauses 𝓤 H A mem run κs a .ensures tt y t))
+      (fact 𝓤 ((x ≡ y) × (now (now (s .0) .remaining) ≡ now (now (t .0) .remaining))))
+  reader-u32-one κs a x y s t = both-say 𝓤 _ _ _ (λ p q. (number-fixed x y _ (p .0 .0) (q .0 .0), taken-same _ _ (p .0 .0) (q .0 .0) (p .0 .1) (q .0 .1)))
+
+  pub reader-boolean-one : (κs : Lfts 2) (a : Args reader-boolean.signature κs) (x y : Res reader-boolean.signature κs) (s t : AtExit reader-boolean.ended κs)
+      → ent 𝓤 (sep 𝓤 (reader-boolean.clauses 𝓤 H A mem run κs a .ensures tt x s) (reader-boolean.clauses 𝓤 H A mem run κs a .ensures tt y t))
+      (fact 𝓤 ((x ≡ y) × (now (now (s .0) .remaining) ≡ now (now (t .0) .remaining))))
+  reader-boolean-one κs a x y s t = both-say 𝓤 _ _ _ (λ p q. (flag-fixed x y _ (p .0) (q .0), taken-same _ _ (p .0) (q .0) (p .1) (q .1)))
+
+  pub reader-string-one : (κs : Lfts 2) (a : Args reader-string.signature κs) (x y : Res reader-string.signature κs) (s t : AtExit reader-string.ended κs)
+      → ent 𝓤 (sep 𝓤 (reader-string.clauses 𝓤 H A mem run κs a .ensures tt x s) (reader-string.clauses 𝓤 H A mem run κs a .ensures tt y t))
+      (fact 𝓤 ((x ≡ y) × (now (now (s .0) .remaining) ≡ now (now (t .0) .remaining))))
+  reader-string-one κs a x y s t = both-say 𝓤 _ _ _ (λ p q. (text-fixed (now (now (a .0) .remaining)) 0 x y (p .0 .0 ∙ sym (q .0 .0)) (p .1) (q .1), taken-same _ _ (p .0 .0) (q .0 .0) (p .0 .1) (q .0 .1)))

@@ -18,19 +18,26 @@ use denote.Triple.Clauses.{AtExit}
 use lib.ListN.{length, drop}
 use Rattle.codec.specs.Pick.{pick}
 use Rattle.codec.specs.Digits.{bytesOf}
-use Rattle.codec.specs.Sheet.{refused, number, flag, text}
+use Rattle.codec.specs.Sheet.{got, refused, number, flag, text}
 use Rattle.codec.specs.Reading.{readItem}
 use Rattle.codec.specs.Writing.{stopRoom, counted, putAt}
 use Rattle.codec.specs.Refusals.{refusalNumber}
-use Rattle.codec.specs.Told.{widthOf, toldNumber, bit, Writes}
+use Rattle.codec.specs.Told.{widthOf, toldNumber, toldFlag, toldText, bit, Writes}
 use Rattle.codec.specs.declared.refusal.Refusal.the-variants.{BufferOverflow, FamilyLeftBehind}
 use Rattle.codec.specs.declared.reader.Width.the-variants.{Two}
 use Rattle.codec.specs.declared.reader.NumberRead.{NumberRead}
+use Rattle.codec.specs.declared.reader.FlagRead.{FlagRead}
+use Rattle.codec.specs.declared.reader.TextRead.{TextRead}
 use Rattle.codec.specs.declared.reader.Reader.{Reader}
 use Rattle.codec.specs.declared.writer.Written.{Written}
 use Rattle.codec.specs.declared.writer.Written.the-variants.{Count, Refused}
 use Rattle.codec.proofs.reader.Reader.new as new
-use Rattle.codec.proofs.reader.Reader.number as next
+use Rattle.codec.proofs.reader.Reader.byte as next-byte
+use Rattle.codec.proofs.reader.Reader.u16 as next-u16
+use Rattle.codec.proofs.reader.Reader.u24 as next-u24
+use Rattle.codec.proofs.reader.Reader.u32 as next-u32
+use Rattle.codec.proofs.reader.Reader.boolean as next-boolean
+use Rattle.codec.proofs.reader.Reader.string as next-string
 
 -- ---- refusal::number
 -- the number of another row: no room is not "invalid payload", a family left behind is not an unknown one
@@ -73,7 +80,7 @@ pub text-over : readItem (text 0 1) (drop 0 (0x41 ∷ 0x42 ∷ 0 ∷ [])) ≡ re
 unfolding readItem
 text-over = refl
 
--- ---- Reader::new and Reader::number, of the contract itself
+-- ---- Reader::new, and the methods that take an item, of the contract itself
 module _ {M : Type 1} (𝓤 : URA M) (H : Heap 𝓤) (A : Atoms 𝓤) (mem : Memory → SProp 𝓤) (run : Routine → Fun 𝓤) where
   -- these bytes, at this place of memory
   abbrev lent : ℕ → List ℕ → RefT (List ℕ)
@@ -95,19 +102,42 @@ module _ {M : Type 1} (𝓤 : URA M) (H : Heap 𝓤) (A : Atoms 𝓤) (mem : Mem
   abbrev held : List ℕ → RefT Reader
   held s = record { ptr = (9, 0); name = 0; now = reader 0 s }
 
-  -- a number out of range is passed over like any other
-  pub passes-refused : (κs : Lfts 2) (x : NumberRead) (e : AtExit next.ended κs)
-      → ent 𝓤 (next.clauses 𝓤 H A mem run κs (held (0x17 ∷ 0x71 ∷ 9 ∷ []), (Two, (5000, (6000, tt)))) .ensures tt x e)
-      (fact 𝓤 ((toldNumber x ≡ refused 2 0) × (now (now (e .0) .remaining) ≡ 9 ∷ [])))
+  -- the byte behind is not passed over: it is still to come
+  pub byte-takes-one : (κs : Lfts 2) (x : NumberRead) (e : AtExit next-byte.ended κs)
+      → ent 𝓤 (next-byte.clauses 𝓤 H A mem run κs (held (7 ∷ 9 ∷ []), tt) .ensures tt x e) (fact 𝓤 ((toldNumber x ≡ got (7 ∷ [])) × (now (now (e .0) .remaining) ≡ 9 ∷ [])))
   unfolding readItem
-  passes-refused κs x e = fact-mono 𝓤 _ _ (λ p. (p .0 .0, p .1))
+  byte-takes-one κs x e = fact-mono 𝓤 _ _ (λ p. (p .0 .0, rw (p .0 .0) at (p .0 .1)))
 
-  -- and so are too few bytes: none is left to be read as a shorter number
-  pub passes-short : (κs : Lfts 2) (x : NumberRead) (e : AtExit next.ended κs)
-      → ent 𝓤 (next.clauses 𝓤 H A mem run κs (held (7 ∷ []), (Two, (0, (65535, tt)))) .ensures tt x e)
-      (fact 𝓤 ((toldNumber x ≡ refused 1 0) × (now (now (e .0) .remaining) ≡ [])))
+  -- of too few bytes none is left to be read as a shorter number
+  pub word-short : (κs : Lfts 2) (x : NumberRead) (e : AtExit next-u16.ended κs)
+      → ent 𝓤 (next-u16.clauses 𝓤 H A mem run κs (held (7 ∷ []), tt) .ensures tt x e) (fact 𝓤 ((toldNumber x ≡ refused 1 0) × (now (now (e .0) .remaining) ≡ [])))
   unfolding readItem
-  passes-short κs x e = fact-mono 𝓤 _ _ (λ p. (p .0 .0, p .1))
+  word-short κs x e = fact-mono 𝓤 _ _ (λ p. (p .0 .0, rw (p .0 .0) at (p .0 .1)))
+
+  -- the highest byte stands first
+  pub u24-high-first : (κs : Lfts 2) (x : NumberRead) (e : AtExit next-u24.ended κs)
+      → ent 𝓤 (next-u24.clauses 𝓤 H A mem run κs (held (0xB3 ∷ 0xE4 ∷ 0x64 ∷ []), tt) .ensures tt x e) (fact 𝓤 (toldNumber x ≡ got (0xB3E464 ∷ [])))
+  unfolding readItem
+  u24-high-first κs x e = fact-mono 𝓤 _ _ (λ p. p .0 .0)
+
+  -- four bytes, and not three with the rest still to come
+  pub u32-takes-four : (κs : Lfts 2) (x : NumberRead) (e : AtExit next-u32.ended κs)
+      → ent 𝓤 (next-u32.clauses 𝓤 H A mem run κs (held (0 ∷ 1 ∷ 0xC2 ∷ 0 ∷ 9 ∷ []), tt) .ensures tt x e) (fact 𝓤 ((toldNumber x ≡ got (115200 ∷ [])) × (now (now (e .0) .remaining) ≡ 9 ∷ [])))
+  unfolding readItem
+  u32-takes-four κs x e = fact-mono 𝓤 _ _ (λ p. (p .0 .0, rw (p .0 .0) at (p .0 .1)))
+
+  -- 2 is no flag that is on
+  pub no-boolean-2 : (κs : Lfts 2) (x : FlagRead) (e : AtExit next-boolean.ended κs)
+      → ent 𝓤 (next-boolean.clauses 𝓤 H A mem run κs (held (2 ∷ 1 ∷ []), tt) .ensures tt x e) (fact 𝓤 (toldFlag x ≡ refused 2 0))
+  unfolding readItem
+  no-boolean-2 κs x e = fact-mono 𝓤 _ _ (λ p. p .0)
+
+  -- the 00 belongs to the text: what is still to come begins behind it
+  pub string-takes-its-00 : (κs : Lfts 2) (x : TextRead) (e : AtExit next-string.ended κs)
+      → ent 𝓤 (next-string.clauses 𝓤 H A mem run κs (held (0x41 ∷ 0 ∷ 9 ∷ []), tt) .ensures tt x e)
+      (fact 𝓤 ((toldText (0x41 ∷ 0 ∷ 9 ∷ []) 0 x ≡ got (0x41 ∷ [])) × (now (now (e .0) .remaining) ≡ 9 ∷ [])))
+  unfolding readItem
+  string-takes-its-00 κs x e = fact-mono 𝓤 _ _ (λ p. (p .0 .0, rw (p .0 .0) at (p .0 .1)))
 
 -- ---- writer::values_first (and must-fail/room_first)
 -- a good value makes no room

@@ -8,3 +8,4 @@ pub mod Sound
 pub mod Edit
 pub mod Refusals
 pub mod Told
+pub mod Taking

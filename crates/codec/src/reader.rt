@@ -4,9 +4,10 @@ ghost use Prim.Native.Nat.{_≤_, _<_, _+_, _*_, _^_};
 ghost use lib.ListN.{length, take, drop};
 ghost use lib.Dec.{ltb};
 ghost use Rattle.codec.specs.Digits.{numberOf};
-ghost use Rattle.codec.specs.Sheet.{number, flag, text};
+ghost use Rattle.codec.specs.Sheet.{number, byte, word, long, flag, text};
 ghost use Rattle.codec.specs.Reading.{before0, readItem};
 ghost use Rattle.codec.specs.Told.{widthOf, toldNumber, atMost, toldFlag, toldText, textIn};
+ghost use Rattle.codec.specs.Taking.{behindItem, Takes, BehindNumber, BehindText};
 use crate::refusal::Refusal;
 
 pub enum Width {
@@ -25,6 +26,9 @@ pub enum FlagRead {
     Got(bool),
     Refused(Refusal),
 }
+
+// "A text is up to 51 nonzero bytes, then 00."
+pub const MAX_COMMAND_STRING_LEN: usize = 51;
 
 // A text: how many bytes stand before its 00, and the place after it.
 pub enum TextRead {
@@ -133,11 +137,10 @@ pub fn read_text(bytes: &[u8], at: usize, most: usize) -> TextRead
     }
 }
 
-// The bytes behind the first item of a width; none where there are fewer.
-fn behind(s: &[u8], w: Width) -> &[u8]
-    ensures { λ r. ⌜ now r ≡ drop (widthOf w) (now (s .entry)) ⌝ }
+// All but the first n bytes; none where there are fewer.
+fn all_but(s: &[u8], n: usize) -> &[u8]
+    ensures { λ r. ⌜ now r ≡ drop n (now (s .entry)) ⌝ }
 {
-    let n = bytes_of(w);
     let len = s.len();
     if len < n {
         return &s[len..];
@@ -145,8 +148,97 @@ fn behind(s: &[u8], w: Width) -> &[u8]
     &s[n..]
 }
 
-// The Rust's Reader: it holds the bytes still to come, and an item is taken from their front. Where bytes are missing none are left
-// to come, while the Rust's keeps them; no caller looks at what is read after a refusal.
+// The item at the front of some bytes, and the bytes behind it: what the methods of a Reader take. After a refusal nothing is left to come.
+fn behind_number(s: &[u8], got: NumberRead, n: usize) -> &[u8]
+    ensures { λ r. ⌜ BehindNumber n (toldNumber got) (now (s .entry)) (now r) ⌝ }
+{
+    match got {
+        NumberRead::Got(_) => all_but(s, n),
+        NumberRead::Refused(_) => all_but(s, s.len()),
+    }
+}
+
+fn first_byte(s: &[u8]) -> NumberRead
+    ensures { λ r. ⌜ (toldNumber r ≡ readItem byte (now (s .entry))) × atMost 255 r ⌝ }
+{
+    read_number(s, 0, Width::One, 0, 255)
+}
+
+fn behind_byte(s: &[u8], got: NumberRead) -> &[u8]
+    ensures { λ r. ⌜ now r ≡ behindItem byte (toldNumber got) (now (s .entry)) ⌝ }
+{
+    behind_number(s, got, 1)
+}
+
+fn first_u16(s: &[u8]) -> NumberRead
+    ensures { λ r. ⌜ (toldNumber r ≡ readItem word (now (s .entry))) × atMost 65535 r ⌝ }
+{
+    read_number(s, 0, Width::Two, 0, 65535)
+}
+
+fn behind_u16(s: &[u8], got: NumberRead) -> &[u8]
+    ensures { λ r. ⌜ now r ≡ behindItem word (toldNumber got) (now (s .entry)) ⌝ }
+{
+    behind_number(s, got, 2)
+}
+
+// Three bytes, for a colour: "A colour is one item."
+fn first_u24(s: &[u8]) -> NumberRead
+    ensures { λ r. ⌜ (toldNumber r ≡ readItem (number 3 0 16777215) (now (s .entry))) × atMost 16777215 r ⌝ }
+{
+    read_number(s, 0, Width::Three, 0, 16777215)
+}
+
+fn behind_u24(s: &[u8], got: NumberRead) -> &[u8]
+    ensures { λ r. ⌜ now r ≡ behindItem (number 3 0 16777215) (toldNumber got) (now (s .entry)) ⌝ }
+{
+    behind_number(s, got, 3)
+}
+
+fn first_u32(s: &[u8]) -> NumberRead
+    ensures { λ r. ⌜ (toldNumber r ≡ readItem long (now (s .entry))) × atMost 4294967295 r ⌝ }
+{
+    read_number(s, 0, Width::Four, 0, 4294967295)
+}
+
+fn behind_u32(s: &[u8], got: NumberRead) -> &[u8]
+    ensures { λ r. ⌜ now r ≡ behindItem long (toldNumber got) (now (s .entry)) ⌝ }
+{
+    behind_number(s, got, 4)
+}
+
+fn first_boolean(s: &[u8]) -> FlagRead
+    ensures { λ r. ⌜ toldFlag r ≡ readItem flag (now (s .entry)) ⌝ }
+{
+    read_flag(s, 0)
+}
+
+fn behind_boolean(s: &[u8], got: FlagRead) -> &[u8]
+    ensures { λ r. ⌜ now r ≡ behindItem flag (toldFlag got) (now (s .entry)) ⌝ }
+{
+    match got {
+        FlagRead::Got(_) => all_but(s, 1),
+        FlagRead::Refused(_) => all_but(s, s.len()),
+    }
+}
+
+fn first_string(s: &[u8]) -> TextRead
+    ensures { λ r. ⌜ (toldText (now (s .entry)) 0 r ≡ readItem (text 0 51) (now (s .entry))) × textIn (now (s .entry)) 0 r ⌝ }
+{
+    read_text(s, 0, MAX_COMMAND_STRING_LEN)
+}
+
+fn behind_string(s: &[u8], got: TextRead) -> &[u8]
+    ensures { λ r. ⌜ BehindText got (now (s .entry)) (now r) ⌝ }
+{
+    match got {
+        TextRead::Got { len: _, next } => all_but(s, next),
+        TextRead::Refused(_) => all_but(s, s.len()),
+    }
+}
+
+// The Rust's Reader: it holds the bytes still to come, and an item is taken from their front. After a refusal none are left to come, while
+// the Rust's keeps those there were; no caller looks at what is read after a refusal.
 pub struct Reader<'a> {
     pub remaining: &'a [u8],
 }
@@ -158,13 +250,59 @@ impl<'a> Reader<'a> {
         Reader { remaining: bytes }
     }
 
-    // The Rust's byte, u16 and u32: a number of a width, within low and high.
-    pub fn number(&mut self, width: Width, low: u32, high: u32) -> NumberRead
-        ensures { λ r. ⌜ ((toldNumber r ≡ readItem (number (widthOf width) low high) (now (now (self .entry) .remaining))) × atMost high r) × (now (now (self .exit) .remaining) ≡ drop (widthOf width) (now (now (self .entry) .remaining))) ⌝ }
+    pub fn byte(&mut self) -> NumberRead
+        ensures { λ r. ⌜ Takes byte (toldNumber r) (now (now (self .entry) .remaining)) (now (now (self .exit) .remaining)) × atMost 255 r ⌝ }
     {
         let s = self.remaining;
-        let got = read_number(s, 0, width, low, high);
-        self.remaining = behind(s, width);
+        let got = first_byte(s);
+        self.remaining = behind_byte(s, got);
+        got
+    }
+
+    pub fn u16(&mut self) -> NumberRead
+        ensures { λ r. ⌜ Takes word (toldNumber r) (now (now (self .entry) .remaining)) (now (now (self .exit) .remaining)) × atMost 65535 r ⌝ }
+    {
+        let s = self.remaining;
+        let got = first_u16(s);
+        self.remaining = behind_u16(s, got);
+        got
+    }
+
+    // A colour's three bytes, where the Rust takes two and one: "A colour is one item."
+    pub fn u24(&mut self) -> NumberRead
+        ensures { λ r. ⌜ Takes (number 3 0 16777215) (toldNumber r) (now (now (self .entry) .remaining)) (now (now (self .exit) .remaining)) × atMost 16777215 r ⌝ }
+    {
+        let s = self.remaining;
+        let got = first_u24(s);
+        self.remaining = behind_u24(s, got);
+        got
+    }
+
+    pub fn u32(&mut self) -> NumberRead
+        ensures { λ r. ⌜ Takes long (toldNumber r) (now (now (self .entry) .remaining)) (now (now (self .exit) .remaining)) × atMost 4294967295 r ⌝ }
+    {
+        let s = self.remaining;
+        let got = first_u32(s);
+        self.remaining = behind_u32(s, got);
+        got
+    }
+
+    pub fn boolean(&mut self) -> FlagRead
+        ensures { λ r. ⌜ Takes flag (toldFlag r) (now (now (self .entry) .remaining)) (now (now (self .exit) .remaining)) ⌝ }
+    {
+        let s = self.remaining;
+        let got = first_boolean(s);
+        self.remaining = behind_boolean(s, got);
+        got
+    }
+
+    // The text stands at the front of the bytes that there were.
+    pub fn string(&mut self) -> TextRead
+        ensures { λ r. ⌜ Takes (text 0 51) (toldText (now (now (self .entry) .remaining)) 0 r) (now (now (self .entry) .remaining)) (now (now (self .exit) .remaining)) × textIn (now (now (self .entry) .remaining)) 0 r ⌝ }
+    {
+        let s = self.remaining;
+        let got = first_string(s);
+        self.remaining = behind_string(s, got);
         got
     }
 }

@@ -1,16 +1,10 @@
 -- 0x0A General: what each command says, and what a reading tells. Assumes nothing.
-use Prim.Native.Nat.{ℕ}
-use mathlib.Core.Path.{_≡_}
-use mathlib.Core.List.{List, [], _∷_}
-use lib.ListN.{drop}
+use mathlib.Core.List.{[], _∷_}
 use lib.Dec.{eqb}
 use Rattle.codec.specs.Pick.{pick}
-use Rattle.codec.specs.Sheet.{Answer, got, refused, Said, said, byte, itemNumber}
-use Rattle.codec.specs.Reading.{readItem, readBody}
+use Rattle.codec.specs.Sheet.{Answer, got, refused, Said, said, itemNumber}
 use Rattle.codec.specs.Refusals.{refusalNumber}
-use Rattle.codec.specs.Told.{bit, toldNumber}
-use Rattle.codec.specs.declared.reader.NumberRead.{NumberRead}
-use Rattle.families.specs.Sheets.{generalRows}
+use Rattle.codec.specs.Told.{bit}
 use Rattle.families.specs.declared.general.GeneralCommand.{GeneralCommand}
 use Rattle.families.specs.declared.general.GeneralCommand.the-variants.{SpeedProposal, SpeedProposalResponse}
 use Rattle.families.specs.declared.general.GeneralRead.{GeneralRead}
@@ -28,8 +22,3 @@ generalOf (said sub vs) =
 abbrev pub toldGeneral : GeneralRead → Answer Said
 toldGeneral (Got c) = got (generalSays c)
 toldGeneral (Refused r) = refused (refusalNumber r) 0
-
--- For the contract of the private read_behind: whatever body has this sub-command, this port and this rest, the answer is that body's.
-abbrev pub GeneralBy : NumberRead → NumberRead → List ℕ → GeneralRead → Type 0
-GeneralBy sub port rest r =
-    (body : List ℕ) → toldNumber sub ≡ readItem byte body → toldNumber port ≡ readItem byte (drop 1 body) → rest ≡ drop 2 body → toldGeneral r ≡ readBody generalRows body

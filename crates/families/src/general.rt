@@ -2,18 +2,23 @@
 ghost use mathlib.Core.Path.{_≡_};
 ghost use mathlib.Core.List.{_∷_, []};
 ghost use lib.ListN.{length};
-ghost use Rattle.codec.specs.Reading.{readBody};
-ghost use Rattle.codec.specs.Sheet.{said};
+ghost use Rattle.codec.specs.Reading.{readItems, readBody};
+ghost use Rattle.codec.specs.Sheet.{said, got, andThen, byte, long, flag, first};
 ghost use Rattle.codec.specs.Writing.{writeBody, stopInOrder};
-ghost use Rattle.codec.specs.Told.{Writes, bit, atMost};
+ghost use Rattle.codec.specs.Told.{Writes, bit, toldNumber, toldFlag, atMost};
+ghost use Rattle.codec.specs.Taking.{inTurn, readBehind};
 ghost use Rattle.families.specs.Sheets.{generalRows};
-ghost use Rattle.families.specs.General.{generalSays, toldGeneral, GeneralBy};
+ghost use Rattle.families.specs.General.{generalSays, toldGeneral};
 use codec::reader::FlagRead;
 use codec::reader::NumberRead;
 use codec::reader::Reader;
 use codec::reader::Width;
 use codec::refusal::Refusal;
 use codec::writer::Written;
+
+const SUB_COMMAND_ID_GENERAL_SPEED_PROPOSAL: u32 = 0x70;
+
+const SUB_COMMAND_ID_GENERAL_SPEED_PROPOSAL_RESPONSE: u32 = 0x71;
 
 pub enum GeneralCommand {
     SpeedProposal { port_id: u8, proposed_baudrate: u32 },
@@ -25,39 +30,66 @@ pub enum GeneralRead {
     Refused(Refusal),
 }
 
-// Behind the sub-command and the port.
-fn read_behind(sub: NumberRead, port: NumberRead, rest: &[u8]) -> GeneralRead
+fn proposal(port: NumberRead, baud: NumberRead) -> GeneralRead
     requires { ⌜ atMost 255 port ⌝ }
-    ensures { λ r. ⌜ GeneralBy sub port (now (rest .entry)) r ⌝ }
+    ensures { λ r. ⌜ toldGeneral r ≡ andThen (inTurn (toldNumber port ∷ toldNumber baud ∷ [])) (λ vs. got (said 0x70 vs)) ⌝ }
+{
+    match port {
+        NumberRead::Got(p) => match baud {
+            NumberRead::Got(b) => GeneralRead::Got(GeneralCommand::SpeedProposal {
+                port_id: p as u8,
+                proposed_baudrate: b,
+            }),
+            NumberRead::Refused(r) => GeneralRead::Refused(r),
+        },
+        NumberRead::Refused(r) => GeneralRead::Refused(r),
+    }
+}
+
+// "70 port(1), baud(4)", behind the sub-command.
+fn read_proposal(rest: &[u8]) -> GeneralRead
+    ensures { λ r. ⌜ toldGeneral r ≡ andThen (readItems (byte ∷ long ∷ []) (now (rest .entry)) 0) (λ vs. got (said 0x70 vs)) ⌝ }
+{
+    let mut input = Reader::new(rest);
+    let port = input.byte();
+    let baud = input.u32();
+    proposal(port, baud)
+}
+
+fn response(port: NumberRead, accepted: FlagRead) -> GeneralRead
+    requires { ⌜ atMost 255 port ⌝ }
+    ensures { λ r. ⌜ toldGeneral r ≡ andThen (inTurn (toldNumber port ∷ toldFlag accepted ∷ [])) (λ vs. got (said 0x71 vs)) ⌝ }
+{
+    match port {
+        NumberRead::Got(p) => match accepted {
+            FlagRead::Got(a) => GeneralRead::Got(GeneralCommand::SpeedProposalResponse {
+                port_id: p as u8,
+                accepted: a,
+            }),
+            FlagRead::Refused(r) => GeneralRead::Refused(r),
+        },
+        NumberRead::Refused(r) => GeneralRead::Refused(r),
+    }
+}
+
+// "71 port(1), accepted(flag)", behind the sub-command.
+fn read_response(rest: &[u8]) -> GeneralRead
+    ensures { λ r. ⌜ toldGeneral r ≡ andThen (readItems (byte ∷ flag ∷ []) (now (rest .entry)) 0) (λ vs. got (said 0x71 vs)) ⌝ }
+{
+    let mut input = Reader::new(rest);
+    let port = input.byte();
+    let accepted = input.boolean();
+    response(port, accepted)
+}
+
+// The sub-command is judged before the items behind it are taken.
+fn read_behind(sub: NumberRead, rest: &[u8]) -> GeneralRead
+    ensures { λ r. ⌜ toldGeneral r ≡ andThen (toldNumber sub) (λ v. readBehind generalRows (now (rest .entry)) (first v)) ⌝ }
 {
     match sub {
         NumberRead::Got(sub) => match sub {
-            0x70 => match port {
-                NumberRead::Got(p) => match codec::reader::read_number(
-                    rest,
-                    0,
-                    Width::Four,
-                    0,
-                    4294967295,
-                ) {
-                    NumberRead::Got(b) => GeneralRead::Got(GeneralCommand::SpeedProposal {
-                        port_id: p as u8,
-                        proposed_baudrate: b,
-                    }),
-                    NumberRead::Refused(r) => GeneralRead::Refused(r),
-                },
-                NumberRead::Refused(r) => GeneralRead::Refused(r),
-            },
-            0x71 => match port {
-                NumberRead::Got(p) => match codec::reader::read_flag(rest, 0) {
-                    FlagRead::Got(a) => GeneralRead::Got(GeneralCommand::SpeedProposalResponse {
-                        port_id: p as u8,
-                        accepted: a,
-                    }),
-                    FlagRead::Refused(r) => GeneralRead::Refused(r),
-                },
-                NumberRead::Refused(r) => GeneralRead::Refused(r),
-            },
+            SUB_COMMAND_ID_GENERAL_SPEED_PROPOSAL => read_proposal(rest),
+            SUB_COMMAND_ID_GENERAL_SPEED_PROPOSAL_RESPONSE => read_response(rest),
             _ => GeneralRead::Refused(Refusal::InvalidPayload),
         },
         NumberRead::Refused(r) => GeneralRead::Refused(r),
@@ -68,9 +100,8 @@ pub fn read(body: &[u8]) -> GeneralRead
     ensures { λ r. ⌜ toldGeneral r ≡ readBody generalRows (now (body .entry)) ⌝ }
 {
     let mut input = Reader::new(body);
-    let sub = input.number(Width::One, 0, 255);
-    let port = input.number(Width::One, 0, 255);
-    read_behind(sub, port, input.remaining)
+    let sub = input.byte();
+    read_behind(sub, input.remaining)
 }
 
 fn write_proposal(port: u8, baud: u32, body: &mut [u8]) -> Written
@@ -79,7 +110,7 @@ fn write_proposal(port: u8, baud: u32, body: &mut [u8]) -> Written
     if body.len() < 6 {
         return Written::Refused(Refusal::BufferOverflow);
     }
-    codec::writer::put_number(body, 0, Width::One, 0x70);
+    codec::writer::put_number(body, 0, Width::One, SUB_COMMAND_ID_GENERAL_SPEED_PROPOSAL);
     codec::writer::put_number(body, 1, Width::One, port as u32);
     codec::writer::put_number(body, 2, Width::Four, baud);
     Written::Count(6)
@@ -92,7 +123,12 @@ fn write_response(port: u8, accepted: bool, body: &mut [u8]) -> Written
         return Written::Refused(Refusal::BufferOverflow);
     }
     let a = codec::writer::bit_of(accepted);
-    codec::writer::put_number(body, 0, Width::One, 0x71);
+    codec::writer::put_number(
+        body,
+        0,
+        Width::One,
+        SUB_COMMAND_ID_GENERAL_SPEED_PROPOSAL_RESPONSE,
+    );
     codec::writer::put_number(body, 1, Width::One, port as u32);
     codec::writer::put_number(body, 2, Width::One, a as u32);
     Written::Count(3)

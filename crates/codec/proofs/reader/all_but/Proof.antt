@@ -1,22 +1,22 @@
--- `reader::behind` meets its contract. Assumes nothing.
-use mathlib.Core.Path.{_≡_, sym, ap, _∙_}
+-- `reader::all_but` meets its contract. Assumes nothing.
+use mathlib.Core.Path.{_≡_, sym, _∙_}
 use mathlib.Core.List.{List}
-use Prim.Native.Nat.{ℕ, _-_}
+use Prim.Native.Nat.{ℕ, _-_, _≤_}
 use native.Mathlib.Omega.{arith}
 use lib.ListN.{length, take, drop, length-drop, drop-of-length-le}
 use lib.Seq.{take-all}
 use borrow.Author.Needs.{needs}
 use denote.Ref.{now}
-use Rattle.codec.specs.Told.{widthOf}
-use Rattle.codec.proofs.reader.behind.Statement.{statement}
-use Rattle.codec.proofs.reader.behind.Tie as tie
+use Rattle.codec.proofs.reader.all_but.Statement.{statement}
+use Rattle.codec.proofs.reader.all_but.Tie as tie
 
 -- the part of a list from a place to its end is all that is behind
 all-behind : (n : ℕ) (l : List ℕ) → take (length l - n) (drop n l) ≡ drop n l
 all-behind n l = let e = length-drop n l in take-all (length l - n) (drop n l) (omega arith)
 
-bytes-of-requires : tie.Need-bytes-of-requires
-bytes-of-requires c κs = search needs
+-- where there are fewer, nothing is
+none-behind : (n : ℕ) (l : List ℕ) → length l ≤ n → take (length l - length l) (drop (length l) l) ≡ drop n l
+none-behind n l h = all-behind (length l) l ∙ (drop-of-length-le l {i = length l} (omega arith) ∙ sym (drop-of-length-le l {i = n} h))
 
 sub-result : tie.Need-sub-result
 sub-result c = search needs
@@ -28,7 +28,7 @@ part-result-end : tie.Need-part-result-end
 part-result-end c = search needs
 
 returns : tie.Need-returns
-returns c = let s = now (c .before .before .before .before .args .s) in all-behind (length s) s ∙ (drop-of-length-le s {i = length s} (omega arith) ∙ sym (drop-of-length-le s {i = widthOf (c .before .before .before .before .args .w)} (let t = c .before .if1 .taken in let e = c .before .before .bytes-of .ensures .0 in omega arith)))
+returns c = let at-start = c .before .before in none-behind (at-start .args .n) (now (at-start .args .s)) (omega arith)
 
 sub-result-2 : tie.Need-sub-result-2
 sub-result-2 c = search needs
@@ -40,13 +40,12 @@ part-result-end-2 : tie.Need-part-result-end-2
 part-result-end-2 c = search needs
 
 returns-2 : tie.Need-returns-2
-returns-2 c = let s = now (c .before .before .before .before .args .s) in all-behind (c .before .before .bytes-of .result) s ∙ ap (λ (n : ℕ). drop n s) (c .before .before .bytes-of .ensures .0)
+returns-2 c = let at-start = c .before .before in all-behind (at-start .args .n) (now (at-start .args .s))
 
-pub behind-spec : {M : Type 1} → statement M
-behind-spec =
+pub all-but-spec : {M : Type 1} → statement M
+all-but-spec =
     tie.close
     (tie.spec
-    bytes-of-requires
     sub-result
     part-result-start
     part-result-end
