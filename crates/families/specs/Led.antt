@@ -5,7 +5,15 @@ use lib.ListN.{getD}
 use lib.Dec.{eqb}
 use Rattle.codec.specs.Pick.{pick}
 use Rattle.codec.specs.Sheet.{Answer, got, refused, Said, said, itemNumber}
+use Rattle.codec.specs.Digits.{split}
+use Rattle.codec.specs.Writing.{okItem}
 use Rattle.codec.specs.Refusals.{refusalNumber}
+use Rattle.codec.specs.declared.reader.NumberRead.{NumberRead}
+use Rattle.codec.specs.declared.reader.NumberRead.the-variants.{Got as GotNumber, Refused as RefusedNumber}
+use Rattle.families.specs.Sheets.{colour}
+use Rattle.families.specs.declared.led.Fade.{Fade}
+use Rattle.families.specs.declared.led.FadeRead.{FadeRead}
+use Rattle.families.specs.declared.led.FadeRead.the-variants.{Got as GotFade, Refused as RefusedFade}
 use Rattle.families.specs.declared.led.LedColor.{LedColor}
 use Rattle.families.specs.declared.led.ColorRead.{ColorRead}
 use Rattle.families.specs.declared.led.ColorRead.the-variants.{Got as GotColor, Refused as RefusedColor}
@@ -43,3 +51,13 @@ toldColor (RefusedColor r) = refused (refusalNumber r) 0
 abbrev pub toldLed : LedRead → Answer Said
 toldLed (Got c) = got (ledSays c)
 toldLed (Refused r) = refused (refusalNumber r) 0
+
+-- For contracts of private functions, nobody has to believe what follows. The number of three bytes, judged as a colour
+abbrev pub colorTold : NumberRead → Answer (List ℕ)
+colorTold (GotNumber n) = pick (okItem colour (split (9 ∷ 7 ∷ 8 ∷ []) n)) (got (split (9 ∷ 7 ∷ 8 ∷ []) n)) (refused 2 0)
+colorTold (RefusedNumber r) = refused (refusalNumber r) 0
+
+-- the values of a pulse or a blink
+abbrev pub toldFade : FadeRead → Answer (List (List ℕ))
+toldFade (GotFade f) = got ((f .time ∷ []) ∷ colorSays (f .start) ∷ colorSays (f .stop) ∷ [])
+toldFade (RefusedFade r) = refused (refusalNumber r) 0

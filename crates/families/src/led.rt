@@ -1,16 +1,17 @@
 // 0x09 LED.
 ghost use mathlib.Core.Path.{_≡_};
 ghost use mathlib.Core.List.{_∷_, []};
-ghost use lib.ListN.{length, drop};
-ghost use Rattle.codec.specs.Pick.{pick};
-ghost use Rattle.codec.specs.Sheet.{said, got, andThen, word};
+ghost use lib.ListN.{length};
+ghost use Rattle.codec.specs.Sheet.{said, got, andThen, word, first};
 ghost use Rattle.codec.specs.Digits.{join, split};
-ghost use Rattle.codec.specs.Reading.{readItem, readItems, readBody};
+ghost use Rattle.codec.specs.Reading.{readItems, readBody};
 ghost use Rattle.codec.specs.Writing.{okItem, itemsOf, writeBody, stopInOrder};
-ghost use Rattle.codec.specs.Told.{Writes};
+ghost use Rattle.codec.specs.Told.{Writes, toldNumber, atMost};
+ghost use Rattle.codec.specs.Taking.{inTurn, readBehind};
 ghost use Rattle.families.specs.Sheets.{ledRows, colour};
-ghost use Rattle.families.specs.Led.{colorSays, toldColor, ledSays, toldLed};
+ghost use Rattle.families.specs.Led.{colorSays, toldColor, ledSays, toldLed, colorTold, toldFade};
 use codec::reader::NumberRead;
+use codec::reader::Reader;
 use codec::reader::Width;
 use codec::refusal::Refusal;
 use codec::writer::Written;
@@ -50,6 +51,28 @@ pub enum LedRead {
     Refused(Refusal),
 }
 
+// What a pulse and a blink hold.
+pub(crate) struct Fade {
+    pub(crate) time: u16,
+    pub(crate) start: LedColor,
+    pub(crate) stop: LedColor,
+}
+
+pub(crate) enum FadeRead {
+    Got(Fade),
+    Refused(Refusal),
+}
+
+const SUB_COMMAND_ID_LED_SET_DEFAULT: u32 = 0x01;
+
+const SUB_COMMAND_ID_LED_OVERRIDE_COLOR: u32 = 0x02;
+
+const SUB_COMMAND_ID_LED_OVERRIDE_PULSE: u32 = 0x03;
+
+const SUB_COMMAND_ID_LED_OVERRIDE_BLINK: u32 = 0x04;
+
+const SUB_COMMAND_ID_LED_OVERRIDE_SHIFT: u32 = 0x05;
+
 const HIGHEST_HUE: u16 = 359;
 
 const HIGHEST_SATURATION: u8 = 100;
@@ -81,10 +104,11 @@ fn unpacked(n: u32) -> LedColor
     }
 }
 
-fn read_color(s: &[u8], at: usize) -> ColorRead
-    ensures { λ r. ⌜ toldColor r ≡ readItem colour (drop at (now (s .entry))) ⌝ }
+// "A colour is one item": its three bytes are there before it is judged.
+fn color_of(bytes: NumberRead) -> ColorRead
+    ensures { λ r. ⌜ toldColor r ≡ colorTold bytes ⌝ }
 {
-    match codec::reader::read_number(s, at, Width::Three, 0, 16777215) {
+    match bytes {
         NumberRead::Got(n) => {
             let c = unpacked(n);
             if valid(c) {
@@ -97,31 +121,127 @@ fn read_color(s: &[u8], at: usize) -> ColorRead
     }
 }
 
-// A pulse or a blink: "03 time(2), start, stop; 04 the same".
-fn read_fade(body: &[u8], blink: bool) -> LedRead
-    ensures { λ r. ⌜ toldLed r ≡ andThen (readItems (word ∷ colour ∷ colour ∷ []) (now (body .entry)) 1) (λ vs. got (said (pick blink 0x04 0x03) vs)) ⌝ }
+fn color(bytes: NumberRead) -> LedRead
+    ensures { λ r. ⌜ toldLed r ≡ andThen (inTurn (colorTold bytes ∷ [])) (λ vs. got (said 0x02 vs)) ⌝ }
 {
-    match codec::reader::read_number(body, 1, Width::Two, 0, 65535) {
-        NumberRead::Got(t) => match read_color(body, 3) {
-            ColorRead::Got(start) => match read_color(body, 6) {
-                ColorRead::Got(stop) => {
-                    if blink {
-                        LedRead::Got(LedCommand::OverrideBlink {
-                            interval_ms: t as u16,
-                            start,
-                            stop,
-                        })
-                    } else {
-                        LedRead::Got(LedCommand::OverridePulse {
-                            duration_ms: t as u16,
-                            start,
-                            stop,
-                        })
-                    }
-                }
-                ColorRead::Refused(r) => LedRead::Refused(r),
+    match color_of(bytes) {
+        ColorRead::Got(c) => LedRead::Got(LedCommand::OverrideColor(c)),
+        ColorRead::Refused(r) => LedRead::Refused(r),
+    }
+}
+
+// "02 colour", behind the sub-command.
+fn read_color(rest: &[u8]) -> LedRead
+    ensures { λ r. ⌜ toldLed r ≡ andThen (readItems (colour ∷ []) (now (rest .entry)) 0) (λ vs. got (said 0x02 vs)) ⌝ }
+{
+    let mut input = Reader::new(rest);
+    let bytes = input.u24();
+    color(bytes)
+}
+
+fn fade_of(time: NumberRead, start: NumberRead, stop: NumberRead) -> FadeRead
+    requires { ⌜ atMost 65535 time ⌝ }
+    ensures { λ r. ⌜ toldFade r ≡ inTurn (toldNumber time ∷ colorTold start ∷ colorTold stop ∷ []) ⌝ }
+{
+    match time {
+        NumberRead::Got(t) => match color_of(start) {
+            ColorRead::Got(a) => match color_of(stop) {
+                ColorRead::Got(b) => FadeRead::Got(Fade {
+                    time: t as u16,
+                    start: a,
+                    stop: b,
+                }),
+                ColorRead::Refused(r) => FadeRead::Refused(r),
             },
+            ColorRead::Refused(r) => FadeRead::Refused(r),
+        },
+        NumberRead::Refused(r) => FadeRead::Refused(r),
+    }
+}
+
+// "03 time(2), start, stop; 04 the same", behind the sub-command.
+fn read_fade(rest: &[u8]) -> FadeRead
+    ensures { λ r. ⌜ toldFade r ≡ readItems (word ∷ colour ∷ colour ∷ []) (now (rest .entry)) 0 ⌝ }
+{
+    let mut input = Reader::new(rest);
+    let time = input.u16();
+    let start = input.u24();
+    let stop = input.u24();
+    fade_of(time, start, stop)
+}
+
+fn shift(interval: NumberRead, bytes: NumberRead) -> LedRead
+    requires { ⌜ atMost 65535 interval ⌝ }
+    ensures { λ r. ⌜ toldLed r ≡ andThen (inTurn (toldNumber interval ∷ colorTold bytes ∷ [])) (λ vs. got (said 0x05 vs)) ⌝ }
+{
+    match interval {
+        NumberRead::Got(t) => match color_of(bytes) {
+            ColorRead::Got(c) => LedRead::Got(LedCommand::OverrideShift {
+                interval_ms: t as u16,
+                color: c,
+            }),
             ColorRead::Refused(r) => LedRead::Refused(r),
+        },
+        NumberRead::Refused(r) => LedRead::Refused(r),
+    }
+}
+
+// "05 time(2), colour", behind the sub-command.
+fn read_shift(rest: &[u8]) -> LedRead
+    ensures { λ r. ⌜ toldLed r ≡ andThen (readItems (word ∷ colour ∷ []) (now (rest .entry)) 0) (λ vs. got (said 0x05 vs)) ⌝ }
+{
+    let mut input = Reader::new(rest);
+    let interval = input.u16();
+    let bytes = input.u24();
+    shift(interval, bytes)
+}
+
+fn pulse_of(f: FadeRead) -> LedRead
+    ensures { λ r. ⌜ toldLed r ≡ andThen (toldFade f) (λ vs. got (said 0x03 vs)) ⌝ }
+{
+    match f {
+        FadeRead::Got(f) => {
+            let start = f.start;
+            let stop = f.stop;
+            LedRead::Got(LedCommand::OverridePulse {
+                duration_ms: f.time,
+                start,
+                stop,
+            })
+        }
+        FadeRead::Refused(r) => LedRead::Refused(r),
+    }
+}
+
+fn blink_of(f: FadeRead) -> LedRead
+    ensures { λ r. ⌜ toldLed r ≡ andThen (toldFade f) (λ vs. got (said 0x04 vs)) ⌝ }
+{
+    match f {
+        FadeRead::Got(f) => {
+            let start = f.start;
+            let stop = f.stop;
+            LedRead::Got(LedCommand::OverrideBlink {
+                interval_ms: f.time,
+                start,
+                stop,
+            })
+        }
+        FadeRead::Refused(r) => LedRead::Refused(r),
+    }
+}
+
+// The sub-command is judged before the items behind it are taken.
+fn read_behind(sub: NumberRead, rest: &[u8]) -> LedRead
+    ensures { λ r. ⌜ toldLed r ≡ andThen (toldNumber sub) (λ v. readBehind ledRows (now (rest .entry)) (first v)) ⌝ }
+{
+    match sub {
+        NumberRead::Got(sub) => match sub {
+            SUB_COMMAND_ID_LED_SET_DEFAULT => LedRead::Got(LedCommand::SetDefault),
+            SUB_COMMAND_ID_LED_OVERRIDE_COLOR => read_color(rest),
+            SUB_COMMAND_ID_LED_OVERRIDE_PULSE => pulse_of(read_fade(rest)),
+            SUB_COMMAND_ID_LED_OVERRIDE_BLINK => blink_of(read_fade(rest)),
+            SUB_COMMAND_ID_LED_OVERRIDE_SHIFT => read_shift(rest),
+            _ => LedRead::Refused(Refusal::InvalidPayload),
         },
         NumberRead::Refused(r) => LedRead::Refused(r),
     }
@@ -130,29 +250,9 @@ fn read_fade(body: &[u8], blink: bool) -> LedRead
 pub fn read(body: &[u8]) -> LedRead
     ensures { λ r. ⌜ toldLed r ≡ readBody ledRows (now (body .entry)) ⌝ }
 {
-    match codec::reader::read_number(body, 0, Width::One, 0, 255) {
-        NumberRead::Got(sub) => match sub {
-            0x01 => LedRead::Got(LedCommand::SetDefault),
-            0x02 => match read_color(body, 1) {
-                ColorRead::Got(color) => LedRead::Got(LedCommand::OverrideColor(color)),
-                ColorRead::Refused(r) => LedRead::Refused(r),
-            },
-            0x03 => read_fade(body, false),
-            0x04 => read_fade(body, true),
-            0x05 => match codec::reader::read_number(body, 1, Width::Two, 0, 65535) {
-                NumberRead::Got(t) => match read_color(body, 3) {
-                    ColorRead::Got(color) => LedRead::Got(LedCommand::OverrideShift {
-                        interval_ms: t as u16,
-                        color,
-                    }),
-                    ColorRead::Refused(r) => LedRead::Refused(r),
-                },
-                NumberRead::Refused(r) => LedRead::Refused(r),
-            },
-            _ => LedRead::Refused(Refusal::InvalidPayload),
-        },
-        NumberRead::Refused(r) => LedRead::Refused(r),
-    }
+    let mut input = Reader::new(body);
+    let sub = input.byte();
+    read_behind(sub, input.remaining)
 }
 
 fn packed(c: LedColor) -> u32
@@ -171,7 +271,7 @@ fn write_color(color: LedColor, body: &mut [u8]) -> Written
     match codec::writer::values_first(ok, body.len(), 4) {
         Written::Count(n) => {
             let x = packed(color);
-            codec::writer::put_number(body, 0, Width::One, 0x02);
+            codec::writer::put_number(body, 0, Width::One, SUB_COMMAND_ID_LED_OVERRIDE_COLOR);
             codec::writer::put_number(body, 1, Width::Three, x);
             Written::Count(n)
         }
@@ -218,7 +318,7 @@ fn write_shift(t: u16, color: LedColor, body: &mut [u8]) -> Written
     match codec::writer::values_first(ok, body.len(), 6) {
         Written::Count(n) => {
             let x = packed(color);
-            codec::writer::put_number(body, 0, Width::One, 0x05);
+            codec::writer::put_number(body, 0, Width::One, SUB_COMMAND_ID_LED_OVERRIDE_SHIFT);
             codec::writer::put_number(body, 1, Width::Two, t as u32);
             codec::writer::put_number(body, 3, Width::Three, x);
             Written::Count(n)

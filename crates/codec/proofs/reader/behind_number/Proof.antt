@@ -1,3 +1,4 @@
+-- `reader::behind_number` meets its contract. Assumes nothing.
 use native.Mathlib.Omega.{arith}
 use mathlib.Core.Path.{_∙_}
 use lib.ListN.{length, drop-of-length-le}
@@ -5,31 +6,22 @@ use denote.Ref.{now}
 use borrow.Author.Needs.{needs}
 use Rattle.codec.proofs.reader.behind_number.Statement.{statement}
 use Rattle.codec.proofs.reader.behind_number.Tie as tie
-use Rattle.codec.proofs.reader.behind_number.Reads as reads
-use Rattle.codec.proofs.reader.behind_number.Lts as lts
-use Rattle.codec.proofs.reader.all_but.Reads as all-but-reads
 
--- src/reader.rt:153:31
 enum-told : tie.Need-enum-told
 enum-told c = search needs
 
--- src/reader.rt:153:31
 all-but-requires : tie.Need-all-but-requires
 all-but-requires c κs = search needs
 
--- src/reader.rt:154:46
 enum-told-2 : tie.Need-enum-told-2
 enum-told-2 c = search needs
 
--- src/reader.rt:154:35
 all-but-requires-2 : tie.Need-all-but-requires-2
 all-but-requires-2 c κs = search needs
 
--- src/reader.rt:149:1
 returns : tie.Need-returns
 returns c fs = let h = c .before .enum-told .given in rw (h .1) (c .all-but .ensures)
 
--- src/reader.rt:149:1
 returns-2 : tie.Need-returns-2
 returns-2 c fs = let h = c .before .enum-told2 .given in let s = now (c .before .before .before .before .args .s) in rw (h .1) (c .all-but2 .ensures ∙ drop-of-length-le s {i = length s} (omega arith))
 

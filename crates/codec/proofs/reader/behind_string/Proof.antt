@@ -1,3 +1,4 @@
+-- `reader::behind_string` meets its contract. Assumes nothing.
 use mathlib.Core.Path.{_≡_, ap, _∙_}
 use Prim.Native.Nat.{ℕ, _+_}
 use mathlib.Core.List.{List}
@@ -11,9 +12,6 @@ use Rattle.codec.specs.declared.reader.TextRead.{TextRead}
 use Rattle.codec.specs.declared.reader.TextRead.the-variants.{Got}
 use Rattle.codec.proofs.reader.behind_string.Statement.{statement}
 use Rattle.codec.proofs.reader.behind_string.Tie as tie
-use Rattle.codec.proofs.reader.behind_string.Reads as reads
-use Rattle.codec.proofs.reader.behind_string.Lts as lts
-use Rattle.codec.proofs.reader.all_but.Reads as all-but-reads
 
 -- the place after a text's 00 is one behind its bytes, which are all there
 behind-got : (s t : List ℕ) (r : TextRead) (n next : ℕ) → r ≡ Got n next → t ≡ drop next s → BehindText r s t
@@ -22,23 +20,18 @@ behind-got s t r n next e f = rw e (λ h. let l = length-take-le n s (omega arit
 enum-known-got : tie.Need-enum-known-got
 enum-known-got c = search needs
 
--- src/reader.rt:235:43
 all-but-requires : tie.Need-all-but-requires
 all-but-requires c κs = search needs
 
--- src/reader.rt:236:44
 enum-told : tie.Need-enum-told
 enum-told c = search needs
 
--- src/reader.rt:236:33
 all-but-requires-2 : tie.Need-all-but-requires-2
 all-but-requires-2 c κs = search needs
 
--- src/reader.rt:231:1
 returns : tie.Need-returns
 returns c = behind-got _ _ _ _ _ (c .before .before .got .given .1) (c .all-but .ensures)
 
--- src/reader.rt:231:1
 returns-2 : tie.Need-returns-2
 returns-2 c = let h = c .before .enum-told .given in let s = now (c .before .before .before .before .args .s) in rw (h .1) (λ _. c .all-but2 .ensures ∙ drop-of-length-le s {i = length s} (omega arith))
 

@@ -1,15 +1,11 @@
+-- `reader::behind_u32` meets its contract. Assumes nothing.
 use borrow.Author.Needs.{needs}
 use Rattle.codec.proofs.reader.behind_u32.Statement.{statement}
 use Rattle.codec.proofs.reader.behind_u32.Tie as tie
-use Rattle.codec.proofs.reader.behind_u32.Reads as reads
-use Rattle.codec.proofs.reader.behind_u32.Lts as lts
-use Rattle.codec.proofs.reader.behind_number.Reads as behind-number-reads
 
--- src/reader.rt:179:5
 behind-number-requires : tie.Need-behind-number-requires
 behind-number-requires c κs = search needs
 
--- src/reader.rt:176:1
 returns : tie.Need-returns
 returns c = c .behind-number .ensures _
 

@@ -1,39 +1,30 @@
+-- `general::proposal` meets its contract. Assumes nothing.
 use native.Mathlib.Omega.{arith}
 use borrow.Author.Needs.{needs}
 use Rattle.families.proofs.general.proposal.Statement.{statement}
 use Rattle.families.proofs.general.proposal.Tie as tie
-use Rattle.families.proofs.general.proposal.Reads as reads
-use Rattle.families.proofs.general.proposal.Lts as lts
 
--- src/general.rt:38:25
 enum-known-port : tie.Need-enum-known-port
 enum-known-port c = search needs
 
--- src/general.rt:39:29
 enum-known-baud : tie.Need-enum-known-baud
 enum-known-baud c = search needs
 
--- src/general.rt:40:26
 cast-t9 : tie.Need-cast-t9
 cast-t9 c = let h = rw (c .before .before .before .before .port .given .1) at (c .before .before .before .before .before .before .pre) in omega arith
 
--- src/general.rt:43:33
 enum-known-baud-2 : tie.Need-enum-known-baud-2
 enum-known-baud-2 c = search needs
 
--- src/general.rt:45:29
 enum-known-port-2 : tie.Need-enum-known-port-2
 enum-known-port-2 c = search needs
 
--- src/general.rt:33:1
 returns : tie.Need-returns
 returns c = rw (c .before .before .before .before .port .given .1, c .before .baud .given .1)
 
--- src/general.rt:33:1
 returns-2 : tie.Need-returns-2
 returns-2 c = rw (c .before .before .before .before .port .given .1, c .before .baud2 .given .1)
 
--- src/general.rt:33:1
 returns-3 : tie.Need-returns-3
 returns-3 c = rw (c .before .port2 .given .1)
 

@@ -1,42 +1,31 @@
+-- `general::read_behind` meets its contract. Assumes nothing.
 use native.Mathlib.Omega.{arith}
 use borrow.Author.Tests.{ne-eqb}
 use borrow.Author.Needs.{needs}
 use Rattle.families.proofs.general.read_behind.Statement.{statement}
 use Rattle.families.proofs.general.read_behind.Tie as tie
-use Rattle.families.proofs.general.read_behind.Reads as reads
-use Rattle.families.proofs.general.read_behind.Lts as lts
-use Rattle.families.proofs.general.read_proposal.Reads as read-proposal-reads
-use Rattle.families.proofs.general.read_response.Reads as read-response-reads
 
--- src/general.rt:90:25
 enum-known-sub : tie.Need-enum-known-sub
 enum-known-sub c = search needs
 
--- src/general.rt:91:54
 read-proposal-requires : tie.Need-read-proposal-requires
 read-proposal-requires c κs = search needs
 
--- src/general.rt:92:63
 read-response-requires : tie.Need-read-response-requires
 read-response-requires c κs = search needs
 
--- src/general.rt:95:29
 enum-known-sub-2 : tie.Need-enum-known-sub-2
 enum-known-sub-2 c = search needs
 
--- src/general.rt:86:1
 returns : tie.Need-returns
 returns c = rw (c .before .before .before .sub .given .1, c .before .match2 .keys1) (c .read-proposal .ensures)
 
--- src/general.rt:86:1
 returns-2 : tie.Need-returns-2
 returns-2 c = rw (c .before .before .before .sub .given .1, c .before .match2 .keys2) (c .read-response .ensures)
 
--- src/general.rt:86:1
 returns-3 : tie.Need-returns-3
 returns-3 c = let k = c .match2 .rest in rw (c .before .before .sub .given .1, ne-eqb _ _ (k .0 .1), ne-eqb _ _ (k .1))
 
--- src/general.rt:86:1
 returns-4 : tie.Need-returns-4
 returns-4 c = rw (c .before .sub2 .given .1)
 

@@ -1,39 +1,30 @@
+-- `general::response` meets its contract. Assumes nothing.
 use native.Mathlib.Omega.{arith}
 use borrow.Author.Needs.{needs}
 use Rattle.families.proofs.general.response.Statement.{statement}
 use Rattle.families.proofs.general.response.Tie as tie
-use Rattle.families.proofs.general.response.Reads as reads
-use Rattle.families.proofs.general.response.Lts as lts
 
--- src/general.rt:64:25
 enum-known-port : tie.Need-enum-known-port
 enum-known-port c = search needs
 
--- src/general.rt:65:27
 enum-known-accepted : tie.Need-enum-known-accepted
 enum-known-accepted c = search needs
 
--- src/general.rt:66:26
 cast-t9 : tie.Need-cast-t9
 cast-t9 c = let h = rw (c .before .before .before .before .port .given .1) at (c .before .before .before .before .before .before .pre) in omega arith
 
--- src/general.rt:69:31
 enum-known-accepted-2 : tie.Need-enum-known-accepted-2
 enum-known-accepted-2 c = search needs
 
--- src/general.rt:71:29
 enum-known-port-2 : tie.Need-enum-known-port-2
 enum-known-port-2 c = search needs
 
--- src/general.rt:59:1
 returns : tie.Need-returns
 returns c = rw (c .before .before .before .before .port .given .1, c .before .accepted .given .1)
 
--- src/general.rt:59:1
 returns-2 : tie.Need-returns-2
 returns-2 c = rw (c .before .before .before .before .port .given .1, c .before .accepted2 .given .1)
 
--- src/general.rt:59:1
 returns-3 : tie.Need-returns-3
 returns-3 c = rw (c .before .port2 .given .1)
 

@@ -1,111 +1,54 @@
--- Reading a LED body is reading its sheet. Assumes nothing.
-use native.Mathlib.Omega.{arith}
-use borrow.Author.Tests.{ne-eqb}
-use borrow.Author.Needs.{needs}
-use Rattle.families.proofs.led.read.Statement.{statement}
-use Rattle.families.proofs.led.read.Tie as tie
+-- `led::read` meets its contract, by the one walk of `codec`'s `Straight.antt`. Assumes nothing.
+use mathlib.Core.Path.{_≡_, ap, _∙_}
+use Prim.Native.Nat.{ℕ}
+use mathlib.Core.List.{List, [], _∷_}
+use base.Logic.{emp, id⊢}
+use contract.Running.{givenOf, tables, tablesOf}
+use denote.Triple.Spec.{tripleOf}
+use denote.Triple.Table.{entered, cited}
+use denote.Enum.Laws as EL
+use Rattle.codec.specs.Sheet.{andThen, byte, first}
+use Rattle.codec.specs.Reading.{readBody}
+use Rattle.codec.specs.Told.{toldNumber}
+use Rattle.codec.specs.Taking.{readBehind}
+use Rattle.codec.proofs.InRow.{body-taken}
+use Rattle.families.specs.Sheets.{ledRows}
+use Rattle.families.specs.Led.{toldLed}
+use Rattle.codec.specs.declared.reader.NumberRead.{NumberRead}
+use Rattle.families.specs.declared.led.LedRead.{LedRead}
+use Rattle.codec.proofs.Method.{One, numbers, number-says, MethodC}
+use Rattle.codec.proofs.Straight.{RestJudgeC, rest-meets}
+use Rattle.codec.proofs.Lent.{New}
+use Rattle.codec.proofs.reader.Reader.new.Symbol as new-def
+use Rattle.codec.proofs.reader.Reader.new.Met as new-thm
+use Rattle.codec.proofs.reader.Reader.byte.Symbol as byte-def
+use Rattle.codec.proofs.reader.Reader.byte.Met as byte-thm
+use Rattle.families.proofs.led.LedRead as Z
+use Rattle.families.proofs.led.LedRead.Laws as Z′
+use Rattle.families.proofs.led.read_behind.Symbol as judge-def
+use Rattle.families.proofs.led.read_behind.Met as judge-thm
+use Rattle.families.proofs.led.read.Key as key
+use Rattle.families.proofs.led.read as own
+use Rattle.families.proofs.led.read.Statement as stated
+use Rattle.families.proofs.led.read.Code as code
 
-read-number-requires : tie.Need-read-number-requires
-read-number-requires c κs = search needs
+abbrev answers : One
+answers = record { row = Z.the-row; ty = Z′.mir; typed = λ 𝓤 H A W x u p. EL.lawful Z.the-type Z′.the-laws 𝓤 H A W tt .typed x (u ∷ []) p .0 }
 
-enum-known-sub : tie.Need-enum-known-sub
-enum-known-sub c = search needs
+abbrev Judged : NumberRead → List ℕ → LedRead → Type 0
+Judged n t z = toldLed z ≡ andThen (toldNumber n) (λ v. readBehind ledRows t (first v))
 
-read-color-requires : tie.Need-read-color-requires
-read-color-requires c κs = search needs
+abbrev Says : List ℕ → LedRead → Type 0
+Says s z = toldLed z ≡ readBody ledRows s
 
-enum-known-color : tie.Need-enum-known-color
-enum-known-color c = search needs
-
-enum-known-r : tie.Need-enum-known-r
-enum-known-r c = search needs
-
-read-fade-requires : tie.Need-read-fade-requires
-read-fade-requires c κs = search needs
-
-read-fade-requires-2 : tie.Need-read-fade-requires-2
-read-fade-requires-2 c κs = search needs
-
-read-number-requires-2 : tie.Need-read-number-requires-2
-read-number-requires-2 c κs = search needs
-
-enum-known-t : tie.Need-enum-known-t
-enum-known-t c = search needs
-
-read-color-requires-2 : tie.Need-read-color-requires-2
-read-color-requires-2 c κs = search needs
-
-enum-known-color-2 : tie.Need-enum-known-color-2
-enum-known-color-2 c = search needs
-
-cast-t23 : tie.Need-cast-t23
-cast-t23 c = let h = rw (c .before .before .before .before .before .t .given .1) at (c .before .before .before .before .before .before .before .read-number2 .ensures .1) in omega arith
-
-enum-known-r-2 : tie.Need-enum-known-r-2
-enum-known-r-2 c = search needs
-
-enum-known-r-3 : tie.Need-enum-known-r-3
-enum-known-r-3 c = search needs
-
-enum-known-r-4 : tie.Need-enum-known-r-4
-enum-known-r-4 c = search needs
-
-returns : tie.Need-returns
-returns c = rw (← (c .before .before .before .before .read-number .ensures .0), c .before .before .sub .given .1, c .match2 .keys1)
-
-returns-2 : tie.Need-returns-2
-returns-2 c = rw (← (c .before .before .before .before .before .before .before .before .read-number .ensures .0), c .before .before .before .before .before .before .sub .given .1, c .before .before .before .before .match2 .keys2, ← (c .before .before .before .read-color .ensures), c .before .color .given .1)
-
-returns-3 : tie.Need-returns-3
-returns-3 c = rw (← (c .before .before .before .before .before .before .before .before .read-number .ensures .0), c .before .before .before .before .before .before .sub .given .1, c .before .before .before .before .match2 .keys2, ← (c .before .before .before .read-color .ensures), c .before .r .given .1)
-
-returns-4 : tie.Need-returns-4
-returns-4 c = rw (← (c .before .before .before .before .before .read-number .ensures .0), c .before .before .before .sub .given .1, c .before .match2 .keys3) (c .read-fade .ensures)
-
-returns-5 : tie.Need-returns-5
-returns-5 c = rw (← (c .before .before .before .before .before .read-number .ensures .0), c .before .before .before .sub .given .1, c .before .match2 .keys4) (c .read-fade2 .ensures)
-
-returns-6 : tie.Need-returns-6
-returns-6 c = rw (← (c .before .before .before .before .before .before .before .before .before .before .before .before .read-number .ensures .0), c .before .before .before .before .before .before .before .before .before .before .sub .given .1, c .before .before .before .before .before .before .before .before .match2 .keys5, ← (c .before .before .before .before .before .before .before .read-number2 .ensures .0), c .before .before .before .before .before .t .given .1, ← (c .before .before .before .read-color2 .ensures), c .before .color2 .given .1)
-
-returns-7 : tie.Need-returns-7
-returns-7 c = rw (← (c .before .before .before .before .before .before .before .before .before .before .before .before .read-number .ensures .0), c .before .before .before .before .before .before .before .before .before .before .sub .given .1, c .before .before .before .before .before .before .before .before .match2 .keys5, ← (c .before .before .before .before .before .before .before .read-number2 .ensures .0), c .before .before .before .before .before .t .given .1, ← (c .before .before .before .read-color2 .ensures), c .before .r2 .given .1)
-
-returns-8 : tie.Need-returns-8
-returns-8 c = rw (← (c .before .before .before .before .before .before .before .before .read-number .ensures .0), c .before .before .before .before .before .before .sub .given .1, c .before .before .before .before .match2 .keys5, ← (c .before .before .before .read-number2 .ensures .0), c .before .r3 .given .1)
-
-returns-9 : tie.Need-returns-9
-returns-9 c = let k = c .match2 .rest in rw (← (c .before .before .before .before .read-number .ensures .0), c .before .before .sub .given .1, ne-eqb _ _ (k .0 .0 .0 .0 .1), ne-eqb _ _ (k .0 .0 .0 .1), ne-eqb _ _ (k .0 .0 .1), ne-eqb _ _ (k .0 .1), ne-eqb _ _ (k .1))
-
-returns-10 : tie.Need-returns-10
-returns-10 c = rw (← (c .before .before .before .read-number .ensures .0), c .before .r4 .given .1)
-
-pub read-spec : {M : Type 1} → statement M
-read-spec =
-    tie.close
-    (tie.spec
-    read-number-requires
-    enum-known-sub
-    read-color-requires
-    enum-known-color
-    enum-known-r
-    read-fade-requires
-    read-fade-requires-2
-    read-number-requires-2
-    enum-known-t
-    read-color-requires-2
-    enum-known-color-2
-    cast-t23
-    enum-known-r-2
-    enum-known-r-3
-    enum-known-r-4
-    returns
-    returns-2
-    returns-3
-    returns-4
-    returns-5
-    returns-6
-    returns-7
-    returns-8
-    returns-9
-    returns-10)
+pub read-spec : {M : Type 1} → stated.statement M
+unfolding code.routine tablesOf
+read-spec 𝓤 H 𝓜 𝓖 𝓡 =
+    entered 𝓤 H (tripleOf 𝓤 H (𝓖 .A) own.signature (own.spec 𝓤 H (𝓖 .A) (𝓜 .mem) (𝓡 .run)))
+    (tables 𝓤 H 𝓜 𝓡 code.env .C) (tables 𝓤 H 𝓜 𝓡 code.env .Λ) key.name code.function (code.unfolded 𝓤 H 𝓜 𝓡)
+    (rest-meets numbers answers 𝓤 (λ _. emp 𝓤) Judged H (𝓖 .A) (givenOf 𝓤 H 𝓜 𝓖) (𝓜 .mem) (𝓡 .run) (number-says byte 255) Says (λ s n s1 e1. id⊢ 𝓤 (emp 𝓤))
+    (λ s n s1 z e1 f. f ∙ body-taken ledRows (toldNumber n) s s1 (e1 .0))
+    (tablesOf 𝓤 H 𝓜 (tables 𝓤 H 𝓜 𝓡 code.env)) byte-def.name judge-def.name
+    (λ κ q s. cited 𝓤 H (New 𝓤 H (𝓖 .A) (givenOf 𝓤 H 𝓜 𝓖) κ q 0 (𝓜 .mem) (𝓡 .run) s) 𝓜 𝓡 code.env new-def.name new-def.routine code.calls-codec·reader·Reader·new (new-thm.met 𝓤 H 𝓜 𝓖 𝓡))
+    (cited 𝓤 H (MethodC numbers 𝓤 (number-says byte 255) H (𝓖 .A)) 𝓜 𝓡 code.env byte-def.name byte-def.routine code.calls-codec·reader·Reader·byte (byte-thm.met 𝓤 H 𝓜 𝓖 𝓡))
+    (cited 𝓤 H (RestJudgeC numbers answers 𝓤 (λ _. emp 𝓤) Judged H (𝓖 .A)) 𝓜 𝓡 code.env judge-def.name judge-def.routine code.calls-families·led·read-behind (judge-thm.met 𝓤 H 𝓜 𝓖 𝓡)))

@@ -1,74 +1,63 @@
--- Reading a pulse or a blink is reading its items. Assumes nothing.
-use native.Mathlib.Omega.{arith}
-use borrow.Author.Needs.{needs}
-use Rattle.families.proofs.led.read_fade.Statement.{statement}
-use Rattle.families.proofs.led.read_fade.Tie as tie
+-- `led::read_fade` meets its contract, by the one walk of `codec`'s `Straight.antt`. Assumes nothing.
+use mathlib.Core.Path.{_≡_, ap, _∙_}
+use Prim.Native.Nat.{ℕ}
+use mathlib.Core.List.{List, [], _∷_}
+use base.Logic.{emp}
+use contract.Monad.{fact, factI}
+use contract.Running.{givenOf, tables, tablesOf}
+use denote.Triple.Spec.{tripleOf}
+use denote.Triple.Table.{entered, cited}
+use denote.Enum.Laws as EL
+use Rattle.codec.specs.Sheet.{number, word}
+use Rattle.codec.specs.Reading.{readItems}
+use Rattle.codec.specs.Told.{toldNumber, atMost}
+use Rattle.codec.specs.Taking.{inTurn}
+use Rattle.codec.proofs.InRow.{none, next, taken-reads}
+use Rattle.families.specs.Sheets.{colour}
+use Rattle.families.specs.Led.{toldFade, colorTold}
+use Rattle.families.proofs.Colour.{colour-next}
+use Rattle.codec.specs.declared.reader.NumberRead.{NumberRead}
+use Rattle.families.specs.declared.led.FadeRead.{FadeRead}
+use Rattle.codec.proofs.Method.{One, numbers, number-says, MethodC}
+use Rattle.codec.proofs.Straight.{ThreeJudgeC, three-meets}
+use Rattle.codec.proofs.Lent.{New}
+use Rattle.codec.proofs.reader.Reader.new.Symbol as new-def
+use Rattle.codec.proofs.reader.Reader.new.Met as new-thm
+use Rattle.codec.proofs.reader.Reader.u16.Symbol as u16-def
+use Rattle.codec.proofs.reader.Reader.u16.Met as u16-thm
+use Rattle.codec.proofs.reader.Reader.u24.Symbol as u24-def
+use Rattle.codec.proofs.reader.Reader.u24.Met as u24-thm
+use Rattle.families.proofs.led.FadeRead as Z
+use Rattle.families.proofs.led.FadeRead.Laws as Z′
+use Rattle.families.proofs.led.fade_of.Symbol as judge-def
+use Rattle.families.proofs.led.fade_of.Met as judge-thm
+use Rattle.families.proofs.led.read_fade.Key as key
+use Rattle.families.proofs.led.read_fade as own
+use Rattle.families.proofs.led.read_fade.Statement as stated
+use Rattle.families.proofs.led.read_fade.Code as code
 
-read-number-requires : tie.Need-read-number-requires
-read-number-requires c κs = search needs
+abbrev answers : One
+answers = record { row = Z.the-row; ty = Z′.mir; typed = λ 𝓤 H A W x u p. EL.lawful Z.the-type Z′.the-laws 𝓤 H A W tt .typed x (u ∷ []) p .0 }
 
-enum-known-t : tie.Need-enum-known-t
-enum-known-t c = search needs
+abbrev Needed : NumberRead → NumberRead → NumberRead → Type 0
+Needed n m k = atMost 65535 n
 
-read-color-requires : tie.Need-read-color-requires
-read-color-requires c κs = search needs
+abbrev Judged : NumberRead → NumberRead → NumberRead → FadeRead → Type 0
+Judged n m k z = toldFade z ≡ inTurn (toldNumber n ∷ colorTold m ∷ colorTold k ∷ [])
 
-enum-known-start : tie.Need-enum-known-start
-enum-known-start c = search needs
+abbrev Says : List ℕ → FadeRead → Type 0
+Says s z = toldFade z ≡ readItems (word ∷ colour ∷ colour ∷ []) s 0
 
-read-color-requires-2 : tie.Need-read-color-requires-2
-read-color-requires-2 c κs = search needs
-
-enum-known-stop : tie.Need-enum-known-stop
-enum-known-stop c = search needs
-
-cast-t18 : tie.Need-cast-t18
-cast-t18 c = let h = rw (c .before .before .before .before .before .before .before .before .before .before .t .given .1) at (c .before .before .before .before .before .before .before .before .before .before .before .before .read-number .ensures .1) in omega arith
-
-cast-t20 : tie.Need-cast-t20
-cast-t20 c = let h = rw (c .before .before .before .before .before .before .before .before .before .before .t .given .1) at (c .before .before .before .before .before .before .before .before .before .before .before .before .read-number .ensures .1) in omega arith
-
-enum-known-r : tie.Need-enum-known-r
-enum-known-r c = search needs
-
-enum-known-r-2 : tie.Need-enum-known-r-2
-enum-known-r-2 c = search needs
-
-enum-known-r-3 : tie.Need-enum-known-r-3
-enum-known-r-3 c = search needs
-
-returns : tie.Need-returns
-returns c = rw (← (c .before .before .before .before .before .before .before .before .before .before .before .before .read-number .ensures .0), c .before .before .before .before .before .before .before .before .before .before .t .given .1, ← (c .before .before .before .before .before .before .before .before .read-color .ensures), c .before .before .before .before .before .before .start .given .1, ← (c .before .before .before .before .read-color2 .ensures), c .before .before .stop .given .1, c .if1 .taken)
-
-returns-2 : tie.Need-returns-2
-returns-2 c = rw (← (c .before .before .before .before .before .before .before .before .before .before .before .before .read-number .ensures .0), c .before .before .before .before .before .before .before .before .before .before .t .given .1, ← (c .before .before .before .before .before .before .before .before .read-color .ensures), c .before .before .before .before .before .before .start .given .1, ← (c .before .before .before .before .read-color2 .ensures), c .before .before .stop .given .1, c .if1 .left)
-
-returns-3 : tie.Need-returns-3
-returns-3 c = rw (← (c .before .before .before .before .before .before .before .before .before .before .before .read-number .ensures .0), c .before .before .before .before .before .before .before .before .before .t .given .1, ← (c .before .before .before .before .before .before .before .read-color .ensures), c .before .before .before .before .before .start .given .1, ← (c .before .before .before .read-color2 .ensures), c .before .r .given .1)
-
-returns-4 : tie.Need-returns-4
-returns-4 c = rw (← (c .before .before .before .before .before .before .before .read-number .ensures .0), c .before .before .before .before .before .t .given .1, ← (c .before .before .before .read-color .ensures), c .before .r2 .given .1)
-
-returns-5 : tie.Need-returns-5
-returns-5 c = rw (← (c .before .before .before .read-number .ensures .0), c .before .r3 .given .1)
-
-pub read-fade-spec : {M : Type 1} → statement M
-read-fade-spec =
-    tie.close
-    (tie.spec
-    read-number-requires
-    enum-known-t
-    read-color-requires
-    enum-known-start
-    read-color-requires-2
-    enum-known-stop
-    cast-t18
-    cast-t20
-    enum-known-r
-    enum-known-r-2
-    enum-known-r-3
-    returns
-    returns-2
-    returns-3
-    returns-4
-    returns-5)
+pub read-fade-spec : {M : Type 1} → stated.statement M
+unfolding code.routine tablesOf
+read-fade-spec 𝓤 H 𝓜 𝓖 𝓡 =
+    entered 𝓤 H (tripleOf 𝓤 H (𝓖 .A) own.signature (own.spec 𝓤 H (𝓖 .A) (𝓜 .mem) (𝓡 .run)))
+    (tables 𝓤 H 𝓜 𝓡 code.env .C) (tables 𝓤 H 𝓜 𝓡 code.env .Λ) key.name code.function (code.unfolded 𝓤 H 𝓜 𝓡)
+    (three-meets numbers numbers numbers answers 𝓤 (λ n m k. fact 𝓤 (Needed n m k)) Judged H (𝓖 .A) (givenOf 𝓤 H 𝓜 𝓖) (𝓜 .mem) (𝓡 .run) (number-says word 65535) (number-says (number 3 0 16777215) 16777215) (number-says (number 3 0 16777215) 16777215) Says (λ s n s1 m s2 k s3 e1 e2 e3. factI 𝓤 (Needed n m k) (emp 𝓤) (e1 .1))
+    (λ s n s1 m s2 k s3 z e1 e2 e3 f. f ∙ taken-reads (next (e1 .0) (colour-next m (e2 .0) (colour-next k (e3 .0) none))))
+    (tablesOf 𝓤 H 𝓜 (tables 𝓤 H 𝓜 𝓡 code.env)) u16-def.name u24-def.name u24-def.name judge-def.name
+    (λ κ q s. cited 𝓤 H (New 𝓤 H (𝓖 .A) (givenOf 𝓤 H 𝓜 𝓖) κ q 0 (𝓜 .mem) (𝓡 .run) s) 𝓜 𝓡 code.env new-def.name new-def.routine code.calls-codec·reader·Reader·new (new-thm.met 𝓤 H 𝓜 𝓖 𝓡))
+    (cited 𝓤 H (MethodC numbers 𝓤 (number-says word 65535) H (𝓖 .A)) 𝓜 𝓡 code.env u16-def.name u16-def.routine code.calls-codec·reader·Reader·u16 (u16-thm.met 𝓤 H 𝓜 𝓖 𝓡))
+    (cited 𝓤 H (MethodC numbers 𝓤 (number-says (number 3 0 16777215) 16777215) H (𝓖 .A)) 𝓜 𝓡 code.env u24-def.name u24-def.routine code.calls-codec·reader·Reader·u24 (u24-thm.met 𝓤 H 𝓜 𝓖 𝓡))
+    (cited 𝓤 H (MethodC numbers 𝓤 (number-says (number 3 0 16777215) 16777215) H (𝓖 .A)) 𝓜 𝓡 code.env u24-def.name u24-def.routine code.calls-codec·reader·Reader·u24 (u24-thm.met 𝓤 H 𝓜 𝓖 𝓡))
+    (cited 𝓤 H (ThreeJudgeC numbers numbers numbers answers 𝓤 (λ n m k. fact 𝓤 (Needed n m k)) Judged H (𝓖 .A)) 𝓜 𝓡 code.env judge-def.name judge-def.routine code.calls-families·led·fade-of (judge-thm.met 𝓤 H 𝓜 𝓖 𝓡)))
