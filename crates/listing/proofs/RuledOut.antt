@@ -4,9 +4,10 @@ use Prim.Native.Nat.{ℕ}
 use mathlib.Core.List.{List, [], _∷_}
 use mathlib.Core.Path.{_≡_, refl}
 use lib.ListN.{length, replicate}
+use Rattle.codec.specs.Sheet.{got, refused}
 use Rattle.codec.specs.Writing.{stopRoom}
 use Rattle.codec.specs.Told.{Writes}
-use Rattle.codec.specs.declared.refusal.Refusal.the-variants.{BufferOverflow, RecordNotMade}
+use Rattle.codec.specs.declared.refusal.Refusal.the-variants.{BufferOverflow}
 use Rattle.codec.specs.declared.writer.Written.{Written}
 use Rattle.codec.specs.declared.writer.Written.the-variants.{Refused as NotWritten}
 use Rattle.listing.specs.Text.{textOf}
@@ -14,7 +15,6 @@ use Rattle.listing.specs.Step.{opened, stepOf, closing}
 use Rattle.listing.specs.declared.line.Line.{Line}
 use Rattle.listing.specs.declared.line.Line.the-variants.{Cut, End}
 use Rattle.listing.specs.declared.Listing.{Listing}
-use Rattle.listing.specs.declared.Listed.the-variants.{Line as Found, Nothing, Refused}
 
 -- ---- Listing::new
 -- the count starts at 0
@@ -22,7 +22,7 @@ pub new-count : opened 0 0 .count ≡ 0
 new-count = refl
 
 -- and between records: an input that ends there is not cut
-pub new-between : closing (opened 0 0) ≡ Found (End 0)
+pub new-between : closing (opened 0 0) ≡ got (End 0 ∷ [])
 new-between = refl
 
 -- ---- Listing::next (and must-fail/count_stays)
@@ -36,20 +36,20 @@ next-stops = refl
 
 -- nor across the chunk's: two of its five bytes have come, and no line is given
 pub next-waits : stepOf (opened 3 0) (5 ∷ 8 ∷ 9 ∷ []) 0
-    ≡ record { state = record { count = 3; wanted = 5; held = 2; bytes = 8 ∷ 9 ∷ replicate 58 0 }; at = 3; listed = Nothing }
+    ≡ record { state = record { count = 3; wanted = 5; held = 2; bytes = 8 ∷ 9 ∷ replicate 58 0 }; at = 3; says = got [] }
 next-waits = refl
 
 -- a state beyond its limits is not mended: more bytes held than wanted
-pub next-beyond : stepOf (inside 5 6) (1 ∷ []) 0 ≡ record { state = inside 5 6; at = 0; listed = Refused RecordNotMade }
+pub next-beyond : stepOf (inside 5 6) (1 ∷ []) 0 ≡ record { state = inside 5 6; at = 0; says = refused 5 0 }
 next-beyond = refl
 
 -- ---- Listing::finish
 -- an input that stops inside a record does not end
-pub finish-cut : closing (inside 5 2) ≡ Found (Cut 3)
+pub finish-cut : closing (inside 5 2) ≡ got (Cut 3 ∷ [])
 finish-cut = refl
 
 -- a state beyond its limits has no line
-pub finish-beyond : closing (inside 256 0) ≡ Refused RecordNotMade
+pub finish-beyond : closing (inside 256 0) ≡ refused 5 0
 finish-beyond = refl
 
 -- ---- line::render (and must-fail/lower_case)

@@ -4,7 +4,7 @@ use mathlib.Core.List.{List, [], _∷_, _++_}
 use lib.ListN.{length}
 use Rattle.codec.specs.Sheet.{Answer, got, refused}
 use Rattle.codec.specs.Refusals.{valueIn}
-use Rattle.listing.specs.Step.{toldListed, stepOf, closing}
+use Rattle.listing.specs.Step.{stepOf, closing}
 use Rattle.listing.specs.declared.line.Line.{Line}
 use Rattle.listing.specs.declared.Listing.{Listing}
 
@@ -28,14 +28,14 @@ before (refused n p) s r = fed [] s
 abbrev pub steps : ℕ → Listing → List ℕ → ℕ → Fed
 steps zero s i at = fed [] s
 steps (suc most) s i at =
-    before (toldListed (stepOf s i at .listed)) (stepOf s i at .state) (steps most (stepOf s i at .state) i (stepOf s i at .at))
+    before (stepOf s i at .says) (stepOf s i at .state) (steps most (stepOf s i at .state) i (stepOf s i at .at))
 
 abbrev pub chunk : Listing → List ℕ → Fed
 chunk s i = steps (suc (length i)) s i 0
 
 -- THE lines of an input fed in chunks
 abbrev pub inChunks : Listing → List (List ℕ) → List Line
-inChunks s [] = valueIn [] (toldListed (closing s))
+inChunks s [] = valueIn [] (closing s)
 inChunks s (c ∷ cs) = linesIn (chunk s c) ++ inChunks (stateIn (chunk s c)) cs
 
 abbrev pub joined : List (List ℕ) → List ℕ

@@ -4,7 +4,7 @@ ghost use Prim.Native.Nat.{_+_, _≤_, _<_};
 ghost use lib.ListN.{length};
 ghost use Rattle.commands.specs.Reading.{readCommand};
 ghost use Rattle.listing.specs.Listing.{lineOf};
-ghost use Rattle.listing.specs.Step.{inLimits, opened, keptWith, lineWith, goOn, stepOf, closing};
+ghost use Rattle.listing.specs.Step.{toldListed, toldStep, inLimits, opened, keptWith, lineWith, goOn, stepOf, closing};
 use codec::refusal::Outcome;
 use codec::refusal::Refusal;
 use commands::DirectCommands;
@@ -145,7 +145,7 @@ impl Listing {
     // A record that goes on in this chunk.
     fn go_on(self, input: &[u8], at: usize) -> Step
         requires { ⌜ (at ≤ length (now input)) × ((self .count < 18446744073709551615) × (self .held < self .wanted)) ⌝ }
-        ensures { λ r. ⌜ r ≡ goOn self (now (input .entry)) at ⌝ }
+        ensures { λ r. ⌜ toldStep r ≡ goOn self (now (input .entry)) at ⌝ }
     {
         let left = self.wanted - self.held;
         if input.len() - at < left {
@@ -165,7 +165,7 @@ impl Listing {
 
     // One record from a place of the chunk on, or all that is left of the chunk.
     pub fn next(self, input: &[u8], at: usize) -> Step
-        ensures { λ r. ⌜ r ≡ stepOf self (now (input .entry)) at ⌝ }
+        ensures { λ r. ⌜ toldStep r ≡ stepOf self (now (input .entry)) at ⌝ }
     {
         if self.in_limits() {
             if input.len() <= at {
@@ -189,7 +189,7 @@ impl Listing {
 
     // The input has ended.
     pub fn finish(self) -> Listed
-        ensures { λ r. ⌜ r ≡ closing self ⌝ }
+        ensures { λ r. ⌜ toldListed r ≡ closing self ⌝ }
     {
         if self.in_limits() {
             if self.wanted == 0 {
@@ -204,7 +204,7 @@ impl Listing {
 // A record whose length byte stands before `at`: where the chunk has all of it, nothing is copied.
 fn begin(count: u64, wanted: usize, input: &[u8], at: usize) -> Step
     requires { ⌜ (at ≤ length (now input)) × ((count < 18446744073709551615) × (wanted ≤ 255)) ⌝ }
-    ensures { λ r. ⌜ r ≡ goOn (opened count wanted) (now (input .entry)) at ⌝ }
+    ensures { λ r. ⌜ toldStep r ≡ goOn (opened count wanted) (now (input .entry)) at ⌝ }
 {
     if input.len() - at < wanted {
         return Step {
