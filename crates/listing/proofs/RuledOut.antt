@@ -2,6 +2,7 @@
 -- where the wrong answer would be another. That no other answer is allowed there is in OneAnswer.antt. Assumes nothing.
 use Prim.Native.Nat.{ℕ}
 use mathlib.Core.List.{List, [], _∷_}
+use mathlib.Core.Bool.{true, false}
 use mathlib.Core.Path.{_≡_, refl}
 use lib.ListN.{length, replicate}
 use Rattle.codec.specs.Sheet.{got, refused}
@@ -11,9 +12,10 @@ use Rattle.codec.specs.declared.refusal.Refusal.the-variants.{BufferOverflow}
 use Rattle.codec.specs.declared.writer.Written.{Written}
 use Rattle.codec.specs.declared.writer.Written.the-variants.{Refused as NotWritten}
 use Rattle.listing.specs.Text.{textOf}
+use Rattle.listing.specs.Parts.{filled, nothing, behind}
 use Rattle.listing.specs.Step.{opened, stepOf, closing}
 use Rattle.listing.specs.declared.line.Line.{Line}
-use Rattle.listing.specs.declared.line.Line.the-variants.{Cut, End}
+use Rattle.listing.specs.declared.line.Line.the-variants.{Refused, Cut, End}
 use Rattle.listing.specs.declared.Listing.{Listing}
 
 -- ---- Listing::new
@@ -42,6 +44,19 @@ next-waits = refl
 -- a state beyond its limits is not mended: more bytes held than wanted
 pub next-beyond : stepOf (inside 5 6) (1 ∷ []) 0 ≡ record { state = inside 5 6; at = 0; says = refused 5 0 }
 next-beyond = refl
+
+-- ---- Listing::fill (and must-fail/line_over_line, line_skipped, line_twice, cut_forgotten)
+-- "0 refused 1" and its end are 12 bytes: with room for 11 nothing of it is put, and its record is left to the next part
+pub fill-no-room : filled (opened 0 0) (61 ∷ replicate 61 0) 0 11 ≡ nothing (opened 0 0) 0 (got false)
+fill-no-room = refl
+
+-- with room for 12 it is the part, and the chunk is used up
+pub fill-all : filled (opened 0 0) (61 ∷ replicate 61 0) 0 12 ≡ behind (textOf (Refused 0 1)) (nothing (opened 1 0) 62 (got true))
+fill-all = refl
+
+-- a state beyond its limits is refused before the room is looked at
+pub fill-beyond : filled (inside 5 6) (1 ∷ []) 0 0 ≡ nothing (inside 5 6) 0 (refused 5 0)
+fill-beyond = refl
 
 -- ---- Listing::finish
 -- an input that stops inside a record does not end

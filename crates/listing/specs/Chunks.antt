@@ -1,10 +1,11 @@
 -- An input fed in chunks: all lines of each chunk, one step after the other, then what closes the listing. Assumes nothing.
 use Prim.Native.Nat.{ℕ, zero, suc}
 use mathlib.Core.List.{List, [], _∷_, _++_}
+use mathlib.Core.Path.{_≡_}
 use lib.ListN.{length}
 use Rattle.codec.specs.Sheet.{Answer, got, refused}
 use Rattle.codec.specs.Refusals.{valueIn}
-use Rattle.listing.specs.Step.{stepOf, closing}
+use Rattle.listing.specs.Step.{opened, stepOf, closing}
 use Rattle.listing.specs.declared.line.Line.{Line}
 use Rattle.listing.specs.declared.Listing.{Listing}
 
@@ -41,3 +42,14 @@ inChunks s (c ∷ cs) = linesIn (chunk s c) ++ inChunks (stateIn (chunk s c)) cs
 abbrev pub joined : List (List ℕ) → List ℕ
 joined [] = []
 joined (c ∷ cs) = c ++ joined cs
+
+-- the state after chunks
+abbrev pub afterChunks : Listing → List (List ℕ) → Listing
+afterChunks s [] = s
+afterChunks s (c ∷ cs) = afterChunks (stateIn (chunk s c)) cs
+
+-- a state after so many chunks, whatever they held
+pub record After (k : ℕ) (s : Listing) : Type 0 where
+  pub chunks : List (List ℕ)
+  pub count : length chunks ≡ k
+  pub state : s ≡ afterChunks (opened 0 0) chunks

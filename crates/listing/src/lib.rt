@@ -4,6 +4,7 @@ ghost use Prim.Native.Nat.{_+_, _≤_, _<_};
 ghost use lib.ListN.{length};
 ghost use Rattle.commands.specs.Reading.{readCommand};
 ghost use Rattle.listing.specs.Listing.{lineOf};
+ghost use Rattle.listing.specs.Parts.{filled, Fills, Moves};
 ghost use Rattle.listing.specs.Step.{toldListed, toldStep, inLimits, opened, keptWith, lineWith, goOn, stepOf, closing};
 use codec::refusal::Outcome;
 use codec::refusal::Refusal;
@@ -40,6 +41,21 @@ pub struct Step {
     pub state: Listing,
     pub at: usize,
     pub listed: Listed,
+}
+
+// Why a part ends: the chunk is used up; the next line has no room; or a number, for a state beyond its limits.
+pub enum Stop {
+    Used,
+    Full,
+    Refused(Refusal),
+}
+
+// The state after a part's lines, the place in the chunk where the next part goes on, and how many bytes of text there are.
+pub struct Part {
+    pub state: Listing,
+    pub at: usize,
+    pub n: usize,
+    pub stop: Stop,
 }
 
 // Nothing of a record's payload has come yet.
@@ -164,7 +180,7 @@ impl Listing {
     }
 
     // One record from a place of the chunk on, or all that is left of the chunk.
-    pub fn next(self, input: &[u8], at: usize) -> Step
+    fn next(self, input: &[u8], at: usize) -> Step
         ensures { λ r. ⌜ toldStep r ≡ stepOf self (now (input .entry)) at ⌝ }
     {
         if self.in_limits() {
@@ -184,6 +200,53 @@ impl Listing {
             state: self,
             at: at,
             listed: Listed::Refused(Refusal::RecordNotMade),
+        }
+    }
+
+    // The text of the lines from a place of the chunk on, as many as have room.
+    pub fn fill(self, input: &[u8], at: usize, text: &mut [u8]) -> Part
+        ensures { λ r. ⌜ Fills (filled self (now (input .entry)) at (length (now (text .entry)))) r (now (text .entry)) (now (text .exit)) ⌝ }
+        ensures { λ r. ⌜ Moves at (now (input .entry)) r (now (text .entry)) ⌝ }
+    {
+        let mut s = self;
+        let mut i = at;
+        let mut n: usize = 0;
+        loop {
+            let step = s.next(input, i);
+            let listed = step.listed;
+            let after = step.state;
+            match listed {
+                Listed::Line(line) => {
+                    let k = line::put_text(line, text, n);
+                    if k == 0 {
+                        return Part {
+                            state: s,
+                            at: i,
+                            n: n,
+                            stop: Stop::Full,
+                        };
+                    }
+                    n += k;
+                    s = after;
+                    i = step.at;
+                }
+                Listed::Nothing => {
+                    return Part {
+                        state: after,
+                        at: step.at,
+                        n: n,
+                        stop: Stop::Used,
+                    };
+                }
+                Listed::Refused(r) => {
+                    return Part {
+                        state: after,
+                        at: step.at,
+                        n: n,
+                        stop: Stop::Refused(r),
+                    };
+                }
+            }
         }
     }
 
