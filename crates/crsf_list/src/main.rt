@@ -1,138 +1,204 @@
-// Document 01, "The listing": of standard input, to standard output.
+// Document 01, "The listing": of a file or of standard input, to standard output.
+//
+// No contract of the kit says which bytes a call of C's writes. So the functions that hand a text to be written have a `requires` that
+// says which text it is.
 ghost use Prim.Native.Nat.{_≤_};
 ghost use lib.ListN.{length};
+ghost use Rattle.listing.specs.Chunks.{After};
+ghost use Rattle.listing.specs.Parts.{textOfClosing};
+ghost use Rattle.crsf_list.specs.Handed.{Front, partText, Whole};
 use codec::writer::Written;
+use libc::STDERR_FILENO;
 use libc::STDIN_FILENO;
 use libc::STDOUT_FILENO;
 use listing::Listed;
 use listing::Listing;
-use listing::line::LONGEST;
-use listing::line::Line;
+use listing::Stop;
 
-// How many bytes of text wait to be written; where `wrote` is false a write has failed.
-struct Waiting {
-    n: usize,
+// How long `crsf_list: ` is.
+const BEFORE_NAME: usize = 11;
+
+// What was listed of a chunk: the state behind it, the number of its last part, and whether all of it was written.
+struct Progress {
+    state: Listing,
+    last: u64,
     wrote: bool,
 }
 
-// The state after a chunk, and what waits.
-struct Progress {
-    state: Listing,
-    waiting: Waiting,
-}
-
 // A kit program has no exit status: what failed is said on standard error, and no closing line is written.
-fn write_out(text: &[u8], n: usize) -> bool
-    requires { ⌜ n ≤ length (now text) ⌝ }
-{
-    let wrote = io::write_all(STDOUT_FILENO, &text[..n]);
+fn write_out(text: &[u8]) -> bool {
+    let wrote = io::write_all(STDOUT_FILENO, text);
     if !wrote {
         os::fail(b"crsf_list: standard output");
     }
     wrote
 }
 
-// A line's text behind the n bytes that wait.
-fn put_behind(line: Line, text: &mut [u8], n: usize) -> Waiting
-    requires { ⌜ n ≤ length (now text) ⌝ }
-    ensures { λ r. ⌜ r .n ≤ length (now (text .entry)) ⌝ }
+// Part `turn` of the chunk `input`.
+fn write_part(first: Listing, input: &[u8], turn: u64, text: &[u8], n: usize) -> bool
+    requires { ⌜ Front n (now text) (partText (length (now text)) first (now input) turn) ⌝ }
 {
-    match listing::line::render(line, &mut text[n..]) {
-        Written::Count(k) => Waiting {
-            n: n + k,
-            wrote: true,
-        },
-        Written::Refused(_) => Waiting { n: n, wrote: true },
-    }
+    write_out(&text[..n])
 }
 
-// The same, after what waits is written where the room is short.
-fn put(line: Line, text: &mut [u8], n: usize) -> Waiting
-    requires { ⌜ n ≤ length (now text) ⌝ }
-    ensures { λ r. ⌜ r .n ≤ length (now (text .entry)) ⌝ }
+// The closing line.
+fn write_closing(state: Listing, text: &[u8], n: usize) -> bool
+    requires { ⌜ Front n (now text) (textOfClosing state) ⌝ }
 {
-    if text.len() - n < LONGEST {
-        if write_out(text, n) {
-            return put_behind(line, text, 0);
-        }
-        return Waiting { n: 0, wrote: false };
-    }
-    put_behind(line, text, n)
+    write_out(&text[..n])
 }
 
-// All lines of a chunk: a step without one ends it. (No chunk has as many lines as this loop has turns.)
-fn list_chunk(state: Listing, input: &[u8], text: &mut [u8], waiting: usize) -> Progress
-    requires { ⌜ waiting ≤ length (now text) ⌝ }
-    ensures { λ r. ⌜ r .waiting .n ≤ length (now (text .entry)) ⌝ }
+// All lines of a chunk, after so many chunks: nothing waits for the next one.
+fn list_chunk(chunks: u64, first: Listing, input: &[u8], text: &mut [u8]) -> Progress
+    requires { ⌜ (64 ≤ length (now text)) × After chunks first ⌝ }
+    ensures { λ r. ⌜ Whole (length (now (text .entry))) first (now (input .entry)) r ⌝ }
 {
-    let mut s = state;
+    let mut s = first;
     let mut at: usize = 0;
-    let mut n = waiting;
-    for turn in 0..u64::MAX {
-        let step = s.next(input, at);
-        let listed = step.listed;
-        s = step.state;
-        at = step.at;
-        let Listed::Line(line) = listed else {
-            break;
-        };
-        let w = put(line, text, n);
-        if !w.wrote {
+    let mut turn: u64 = 0;
+    loop {
+        let part = s.fill(input, at, text);
+        let after = part.state;
+        let stop = part.stop;
+        if !write_part(first, input, turn, text, part.n) {
             return Progress {
-                state: s,
-                waiting: w,
+                state: after,
+                last: turn,
+                wrote: false,
             };
         }
-        n = w.n;
-    }
-    Progress {
-        state: s,
-        waiting: Waiting { n: n, wrote: true },
+        match stop {
+            Stop::Full => {
+                s = after;
+                at = part.at;
+                turn += 1;
+            }
+            Stop::Used => {
+                return Progress {
+                    state: after,
+                    last: turn,
+                    wrote: true,
+                };
+            }
+            Stop::Refused(_) => {
+                return Progress {
+                    state: after,
+                    last: turn,
+                    wrote: true,
+                };
+            }
+        }
     }
 }
 
-// The closing line, and all that waits.
-fn close(state: Listing, text: &mut [u8], n: usize)
-    requires { ⌜ n ≤ length (now text) ⌝ }
+// The text of the closing line, which has room. A state beyond its limits has none.
+fn put_closing(state: Listing, text: &mut [u8]) -> usize
+    requires { ⌜ 64 ≤ length (now text) ⌝ }
+    ensures { λ r. ⌜ Front r (now (text .exit)) (textOfClosing state) ⌝ }
 {
-    let listed = state.finish();
-    let Listed::Line(line) = listed else {
-        return;
-    };
-    let w = put(line, text, n);
-    if w.wrote {
-        write_out(text, w.n);
+    match state.finish() {
+        Listed::Line(line) => match listing::line::render(line, text) {
+            Written::Count(n) => n,
+            Written::Refused(_) => 0,
+        },
+        Listed::Nothing => 0,
+        Listed::Refused(_) => 0,
     }
+}
+
+// The input has ended, after so many chunks.
+fn close(chunks: u64, state: Listing, text: &mut [u8])
+    requires { ⌜ (64 ≤ length (now text)) × After chunks state ⌝ }
+{
+    let n = put_closing(state, text);
+    write_closing(state, text, n);
 }
 
 // A proved loop has to end, and nothing says that the input does: no input has as many chunks as this loop has turns.
-fn list_all(input: &mut [u8], text: &mut [u8]) {
+fn list_all(fd: i32, name: &[u8], input: &mut [u8], text: &mut [u8])
+    requires { ⌜ 64 ≤ length (now text) ⌝ }
+{
     let mut s = Listing::new();
-    let mut n: usize = 0;
-    for turn in 0..u64::MAX {
-        let got = libc::read(STDIN_FILENO, input);
+    for chunks in 0..u64::MAX {
+        let got = libc::read(fd, input);
         if got < 0 {
-            os::fail(b"crsf_list: standard input");
-            write_out(text, n);
+            os::fail(name);
             return;
         }
         if got == 0 {
-            close(s, text, n);
+            close(chunks, s, text);
             return;
         }
         let count = io::count(got, input);
-        let p = list_chunk(s, &input[..count], text, n);
-        let w = p.waiting;
-        if !w.wrote {
+        let p = list_chunk(chunks, s, &input[..count], text);
+        if !p.wrote {
             return;
         }
         s = p.state;
-        n = w.n;
     }
 }
 
-fn main() {
+// What is read, with its name in an error.
+fn list(fd: i32, name: &[u8]) {
     let mut input = io::large_buffer();
     let mut text = io::large_buffer();
-    list_all(&mut input, &mut text);
+    list_all(fd, name, &mut input, &mut text);
+}
+
+fn list_standard_input() {
+    list(STDIN_FILENO, b"crsf_list: standard input");
+}
+
+fn usage() {
+    io::write_all(
+        STDERR_FILENO,
+        b"usage: crsf_list [FILE]\nLists the recording FILE; standard input without FILE, or where it is -.\n",
+    );
+}
+
+// `crsf_list: ` and the argument, as an error tells it: a file; `-`; or another word that begins so, an option, and none is known.
+fn list_named(name: &[u8])
+    requires { ⌜ 11 ≤ length (now name) ⌝ }
+{
+    if name.len() > BEFORE_NAME && name[BEFORE_NAME] == b'-' {
+        if name.len() == BEFORE_NAME + 1 {
+            list_standard_input();
+            return;
+        }
+        usage();
+        return;
+    }
+    let fd = os::open_read(&name[BEFORE_NAME..]);
+    if fd < 0 {
+        os::fail(name);
+        return;
+    }
+    list(fd, name);
+}
+
+fn list_argument(name: &mut [u8])
+    requires { ⌜ 11 ≤ length (now name) ⌝ }
+{
+    codec::writer::put_bytes(name, 0, b"crsf_list: ");
+    let n = os::arg(1, &mut name[BEFORE_NAME..]);
+    if os::errno() != 0 {
+        os::fail(b"crsf_list: argument");
+        return;
+    }
+    let end = BEFORE_NAME + n;
+    list_named(&name[..end]);
+}
+
+fn main() {
+    let given = os::arg_count();
+    if given > 2 {
+        usage();
+        return;
+    }
+    if given < 2 {
+        list_standard_input();
+        return;
+    }
+    let mut name = [0u8; 4107];
+    list_argument(&mut name);
 }

@@ -38,25 +38,18 @@ fn put(line: Line, text: &mut [u8], n: usize) -> usize
     }
 }
 
-// All lines of a chunk. (No chunk has as many as this loop has turns.)
-fn list_chunk(state: Listing, chunk: &[u8], text: &mut [u8], count: usize) -> Progress
-    requires { ⌜ count ≤ length (now text) ⌝ }
+// The lines of a chunk behind the n bytes of text that are there. A stored listing is shorter than the text; what had no room would be
+// missing from it, and be told by the comparison.
+fn list_chunk(state: Listing, chunk: &[u8], text: &mut [u8], n: usize) -> Progress
+    requires { ⌜ n ≤ length (now text) ⌝ }
     ensures { λ r. ⌜ r .n ≤ length (now (text .entry)) ⌝ }
 {
-    let mut s = state;
-    let mut at: usize = 0;
-    let mut n = count;
-    for turn in 0..u64::MAX {
-        let step = s.next(chunk, at);
-        let listed = step.listed;
-        s = step.state;
-        at = step.at;
-        let Listed::Line(line) = listed else {
-            break;
-        };
-        n = put(line, text, n);
+    let part = state.fill(chunk, 0, &mut text[n..]);
+    let after = part.state;
+    Progress {
+        state: after,
+        n: n + part.n,
     }
-    Progress { state: s, n: n }
 }
 
 // Where a chunk of at most so many bytes ends.

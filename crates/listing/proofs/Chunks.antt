@@ -19,14 +19,11 @@ use Rattle.commands.specs.Reading.{readCommand}
 use Rattle.commands.specs.declared.DirectCommands.{DirectCommands}
 use Rattle.commands.proofs.Known.{read-long}
 use Rattle.listing.specs.Listing.{lineOf, linesFrom, listing}
-use Rattle.listing.specs.Step.{toldListed, inLimits, opened, keptWith, lineWith, goOn, stepOf, closing}
+use Rattle.listing.specs.Step.{Stepped, inLimits, opened, keptWith, lineWith, goOn, stepOf, closing}
 use Rattle.listing.specs.Chunks.{Fed, fed, linesIn, stateIn, before, steps, inChunks, joined}
 use Rattle.listing.specs.declared.line.Line.{Line}
 use Rattle.listing.specs.declared.line.Line.the-variants.{Cut}
 use Rattle.listing.specs.declared.Listing.{Listing}
-use Rattle.listing.specs.declared.Listed.{Listed}
-use Rattle.listing.specs.declared.Listed.the-variants.{Line as Found, Nothing}
-use Rattle.listing.specs.declared.Step.{Step}
 use Rattle.listing.proofs.StepLaws.{picked, passed, limits-between, limits-inside, goes-none, goes-line, step-none, step-opens, step-goes, closing-end, closing-cut, take-put, line-whole}
 
 -- ---- the listing from record k on does not depend on its bound
@@ -69,10 +66,10 @@ limits-after k [] h u = limits-between (after k []) h refl refl
 limits-after k (n ∷ t) h u = limits-inside (after k (n ∷ t)) h (u .1) (u .0)
 
 -- at the end of the input
-closes : (k : ℕ) (p : List ℕ) → k < 18446744073709551615 → Unfinished p → valueIn [] (toldListed (closing (after k p))) ≡ lines k p
-closes k [] h u = ap (λ (x : Listed). valueIn [] (toldListed x)) (closing-end (after k []) (limits-after k [] h u) refl)
+closes : (k : ℕ) (p : List ℕ) → k < 18446744073709551615 → Unfinished p → valueIn [] (closing (after k p)) ≡ lines k p
+closes k [] h u = ap (λ (x : Answer (List Line)). valueIn [] x) (closing-end (after k []) (limits-after k [] h u) refl)
 closes k (n ∷ t) h u =
-    ap (λ (x : Listed). valueIn [] (toldListed x)) (closing-cut (after k (n ∷ t)) (limits-after k (n ∷ t) h u) (λ e. omega (arith, u .0))) ∙ sym (lines-cut k n t (u .0))
+    ap (λ (x : Answer (List Line)). valueIn [] x) (closing-cut (after k (n ∷ t)) (limits-after k (n ∷ t) h u) (λ e. omega (arith, u .0))) ∙ sym (lines-cut k n t (u .0))
 
 -- ---- one step from such a state
 kept-is : (k n : ℕ) (t u : List ℕ) → keptWith (after k (n ∷ t)) u ≡ after k (n ∷ (t ++ u))
@@ -112,8 +109,8 @@ line-is k n t u e = by (ltb 60 n) refl
 
 -- a step uses up the chunk, or gives the first line of what is there
 data OneStep (k : ℕ) (p c : List ℕ) (at : ℕ) : Type 0 where
-  none : (i : ℕ) → stepOf (after k p) c at ≡ record { state = after k (p ++ drop at c); at = i; listed = Nothing } → Unfinished (p ++ drop at c) → OneStep k p c at
-  line : (l : Line) (i : ℕ) → stepOf (after k p) c at ≡ record { state = after (k + 1) []; at = i; listed = Found l } → at < i → at < length c
+  none : (i : ℕ) → stepOf (after k p) c at ≡ record { state = after k (p ++ drop at c); at = i; says = got [] } → Unfinished (p ++ drop at c) → OneStep k p c at
+  line : (l : Line) (i : ℕ) → stepOf (after k p) c at ≡ record { state = after (k + 1) []; at = i; says = got (l ∷ []) } → at < i → at < length c
       → ((more : List ℕ) → lines k (p ++ (drop at c ++ more)) ≡ l ∷ lines (k + 1) (drop i c ++ more)) → OneStep k p c at
 
 byte-at : (s : List ℕ) (i : ℕ) → Bytes s → getD s i 0 ≤ 255
@@ -126,7 +123,7 @@ ended : (k : ℕ) (p c : List ℕ) (at : ℕ) → k < 18446744073709551615 → U
 ended k p c at b u l =
     let e : p ≡ p ++ drop at c = sym (append-nil p) ∙ ap (λ (x : List ℕ). p ++ x) (sym (drop-of-length-le c l)) in
     none at
-    (step-none (after k p) c at (limits-after k p b u) l ∙ ap (λ (x : List ℕ). record { state = after k x; at = at; listed = Nothing }) e)
+    (step-none (after k p) c at (limits-after k p b u) l ∙ ap (λ (x : List ℕ). record { state = after k x; at = at; says = got [] }) e)
     (subst (λ (x : List ℕ). Unfinished x) e u)
 
 -- a record opens
@@ -155,8 +152,8 @@ module _ (k : ℕ) (c : List ℕ) (at : ℕ) (b : k < 18446744073709551615) (o :
           none (length c)
           (opens
           ∙ goes-none (opened k size) c (at + 1) (omega (arith, left-length))
-          ∙ ap (λ (x : Listing). record { state = x; at = length c; listed = Nothing }) (opened-is k size left)
-          ∙ ap (λ (x : List ℕ). record { state = after k x; at = length c; listed = Nothing }) (sym front))
+          ∙ ap (λ (x : Listing). record { state = x; at = length c; says = got [] }) (opened-is k size left)
+          ∙ ap (λ (x : List ℕ). record { state = after k x; at = length c; says = got [] }) (sym front))
           (subst (λ (x : List ℕ). Unfinished x) (sym front) (h, byte-at c at o))
       by false g =
           let h = ltb-false (length left) size g in
@@ -166,8 +163,8 @@ module _ (k : ℕ) (c : List ℕ) (at : ℕ) (b : k < 18446744073709551615) (o :
           line (lineOf k (readCommand (take size left))) i
           (opens
           ∙ goes-line (opened k size) c (at + 1) (omega (arith, left-length))
-          ∙ ap (λ (j : ℕ). record { state = opened (k + 1) 0; at = at + 1 + j; listed = Found (lineWith (opened k size) (take j left)) }) z
-          ∙ ap (λ (x : Line). record { state = opened (k + 1) 0; at = i; listed = Found x }) (sym (line-whole k size (take size left) w)))
+          ∙ ap (λ (j : ℕ). record { state = opened (k + 1) 0; at = at + 1 + j; says = got (lineWith (opened k size) (take j left) ∷ []) }) z
+          ∙ ap (λ (x : Line). record { state = opened (k + 1) 0; at = i; says = got (x ∷ []) }) (sym (line-whole k size (take size left) w)))
           (omega arith) l
           (λ more.
           ap (λ (x : List ℕ). lines k (x ++ more)) front
@@ -198,7 +195,7 @@ module _ (k n : ℕ) (t c : List ℕ) (at : ℕ) (b : k < 18446744073709551615) 
           none (length c)
           (goes-on
           ∙ goes-none (after k (n ∷ t)) c at (omega (arith, rest-length))
-          ∙ ap (λ (x : Listing). record { state = x; at = length c; listed = Nothing }) (kept-is k n t rest))
+          ∙ ap (λ (x : Listing). record { state = x; at = length c; says = got [] }) (kept-is k n t rest))
           (rw (length-append t rest) (omega arith), u .1)
       by false g =
           let h = ltb-false (length rest) need g in
@@ -208,7 +205,7 @@ module _ (k n : ℕ) (t c : List ℕ) (at : ℕ) (b : k < 18446744073709551615) 
           line (lineOf k (readCommand (t ++ take need rest))) (at + need)
           (goes-on
           ∙ goes-line (after k (n ∷ t)) c at (omega (arith, rest-length))
-          ∙ ap (λ (x : Line). record { state = opened (k + 1) 0; at = at + need; listed = Found x }) (sym (line-is k n t (take need rest) v)))
+          ∙ ap (λ (x : Line). record { state = opened (k + 1) 0; at = at + need; says = got (x ∷ []) }) (sym (line-is k n t (take need rest) v)))
           (omega (arith, u .0)) l
           (λ more.
           let d : n ≤ length (t ++ (rest ++ more)) = rw (length-append t (rest ++ more), length-append rest more) (omega arith) in
@@ -245,7 +242,7 @@ goes-by f k p c at h b more-steps (none i e v) = record {
   found = [];
   count = k;
   rest = p ++ drop at c;
-  feeds = ap (λ (x : Step). before (toldListed (x .listed)) (x .state) (steps f (x .state) c (x .at))) e;
+  feeds = ap (λ (x : Stepped). before (x .says) (x .state) (steps f (x .state) c (x .at))) e;
   unfinished = v;
   most = omega arith;
   agrees = λ more. ap (λ (x : List ℕ). lines k x) (sym (append-assoc p (drop at c) more));
@@ -258,7 +255,7 @@ goes-by f k p c at h b more-steps (line l i e a d g) =
       count = r .count;
       rest = r .rest;
       feeds =
-          ap (λ (x : Step). before (toldListed (x .listed)) (x .state) (steps f (x .state) c (x .at))) e
+          ap (λ (x : Stepped). before (x .says) (x .state) (steps f (x .state) c (x .at))) e
           ∙ ap (λ (x : Fed). before (got (l ∷ [])) (after (k + 1) []) x) (r .feeds);
       unfinished = r .unfinished;
       most = omega (arith, r .most);

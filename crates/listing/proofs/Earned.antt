@@ -22,13 +22,12 @@ use Rattle.commands.specs.Writing.{payloadOf, stopWriting}
 use Rattle.commands.specs.declared.DirectCommands.{DirectCommands}
 use Rattle.commands.proofs.Forth.{read-fits}
 use Rattle.listing.specs.Listing.{lineOf, linesFrom, listing}
-use Rattle.listing.specs.Step.{inLimits, opened, goOn, stepOf}
+use Rattle.listing.specs.Step.{Stepped, toldListed, inLimits, opened, goOn, stepOf}
 use Rattle.listing.specs.declared.line.Line.{Line}
 use Rattle.listing.specs.declared.line.Line.the-variants.{Read, Refused, Cut, End}
 use Rattle.listing.specs.declared.Listing.{Listing}
 use Rattle.listing.specs.declared.Listed.{Listed}
-use Rattle.listing.specs.declared.Listed.the-variants.{Line as Found, Nothing, Refused as RefusedState}
-use Rattle.listing.specs.declared.Step.{Step}
+use Rattle.listing.specs.declared.Listed.the-variants.{Line as Found}
 use Rattle.listing.proofs.StepLaws.{goes-none, goes-line}
 use Rattle.listing.proofs.Listing.next.Reads as next
 use Rattle.listing.proofs.Listing.next.Kinds as next-kinds
@@ -60,15 +59,14 @@ pub listing-numbered : (s : List ℕ) → Numbered 0 (listing s)
 listing-numbered s = numbered-from (suc (length s)) 0 s (omega arith)
 
 -- ---- the step: a record is counted where its line is given, and nowhere else
-abbrev pub earned : Listed → ℕ
-earned (Found l) = 1
-earned Nothing = 0
-earned (RefusedState r) = 0
+abbrev pub earned : Answer (List Line) → ℕ
+earned (got ls) = length ls
+earned (refused n p) = 0
 
-data Counts (k : ℕ) (x : Step) : Type 0 where
-  counts : x .state .count ≡ k + earned (x .listed) → Counts k x
+data Counts (k : ℕ) (x : Stepped) : Type 0 where
+  counts : x .state .count ≡ k + earned (x .says) → Counts k x
 
-whichever : (t : Bool) (k : ℕ) (a b : Step) → Counts k a → Counts k b → Counts k (pick t a b)
+whichever : (t : Bool) (k : ℕ) (a b : Stepped) → Counts k a → Counts k b → Counts k (pick t a b)
 whichever true k a b p q = p
 whichever false k a b p q = q
 
@@ -76,8 +74,8 @@ goes-counts : (s : Listing) (i : List ℕ) (at : ℕ) → Counts (s .count) (goO
 goes-counts s i at = by (ltb (length i - at) (s .wanted - s .held)) refl
   where
     by : (t : Bool) → ltb (length i - at) (s .wanted - s .held) ≡ t → Counts (s .count) (goOn s i at)
-    by true e = subst (λ (x : Step). Counts (s .count) x) (sym (goes-none s i at (ltb-true (length i - at) (s .wanted - s .held) e))) (counts (sym (add-zero (s .count))))
-    by false e = subst (λ (x : Step). Counts (s .count) x) (sym (goes-line s i at (ltb-false (length i - at) (s .wanted - s .held) e))) (counts refl)
+    by true e = subst (λ (x : Stepped). Counts (s .count) x) (sym (goes-none s i at (ltb-true (length i - at) (s .wanted - s .held) e))) (counts (sym (add-zero (s .count))))
+    by false e = subst (λ (x : Stepped). Counts (s .count) x) (sym (goes-line s i at (ltb-false (length i - at) (s .wanted - s .held) e))) (counts refl)
 
 step-is : (s : Listing) (i : List ℕ) (at : ℕ) → Counts (s .count) (stepOf s i at)
 step-is s i at =
@@ -86,22 +84,22 @@ step-is s i at =
     (whichever (eqb (s .wanted) 0) (s .count) _ _ (goes-counts (opened (s .count) (getD i at 0)) i (at + 1)) (goes-counts s i at)))
     (counts (sym (add-zero (s .count))))
 
-count-in : (k : ℕ) (x : Step) → Counts k x → x .state .count ≡ k + earned (x .listed)
+count-in : (k : ℕ) (x : Stepped) → Counts k x → x .state .count ≡ k + earned (x .says)
 count-in k x (counts e) = e
 
-pub step-counts : (s : Listing) (i : List ℕ) (at : ℕ) → stepOf s i at .state .count ≡ s .count + earned (stepOf s i at .listed)
+pub step-counts : (s : Listing) (i : List ℕ) (at : ℕ) → stepOf s i at .state .count ≡ s .count + earned (stepOf s i at .says)
 step-counts s i at = count-in (s .count) (stepOf s i at) (step-is s i at)
 
 -- of the contract: whatever it allows has earned its count
 pub next-earned : (κs : Lfts 1) (a : Dens κs next-kinds.ps) (x : resT next-kinds.r κs .Denot) (s : AtExit (endedOf 1 next-kinds.ps next-kinds.r) κs)
-    → next.Post κs a x s → x .state .count ≡ a .0 .count + earned (x .listed)
-next-earned κs a x s p = subst (λ (y : Step). y .state .count ≡ a .0 .count + earned (y .listed)) (sym p) (step-counts (a .0) (now (a .1 .0)) (a .1 .1 .0))
+    → next.Post κs a x s → x .state .count ≡ a .0 .count + earned (toldListed (x .listed))
+next-earned κs a x s p = subst (λ (y : Stepped). y .state .count ≡ a .0 .count + earned (y .says)) (sym p) (step-counts (a .0) (now (a .1 .0)) (a .1 .1 .0))
 
 -- so a step that gives a line and leaves the count as it was is ruled out
 pub not-uncounted : (κs : Lfts 1) (a : Dens κs next-kinds.ps) (x : resT next-kinds.r κs .Denot) (s : AtExit (endedOf 1 next-kinds.ps next-kinds.r) κs) (l : Line)
     → next.Post κs a x s → x .listed ≡ Found l → x .state .count ≡ a .0 .count → ⊥
 not-uncounted κs a x s l p e f =
-    let g : x .state .count ≡ a .0 .count + 1 = next-earned κs a x s p ∙ ap (λ (y : Listed). a .0 .count + earned y) e in
+    let g : x .state .count ≡ a .0 .count + 1 = next-earned κs a x s p ∙ ap (λ (y : Listed). a .0 .count + earned (toldListed y)) e in
     omega arith
 
 -- ---- "The last number in a read line is the written length": the count that writing gives

@@ -2,6 +2,7 @@ pub mod TextLaws
 pub mod Lengths
 pub mod StepLaws
 pub mod Chunks
+pub mod Parts
 pub mod OneAnswer
 pub mod Earned
 pub mod Example

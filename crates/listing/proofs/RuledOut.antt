@@ -2,19 +2,21 @@
 -- where the wrong answer would be another. That no other answer is allowed there is in OneAnswer.antt. Assumes nothing.
 use Prim.Native.Nat.{ℕ}
 use mathlib.Core.List.{List, [], _∷_}
+use mathlib.Core.Bool.{true, false}
 use mathlib.Core.Path.{_≡_, refl}
 use lib.ListN.{length, replicate}
+use Rattle.codec.specs.Sheet.{got, refused}
 use Rattle.codec.specs.Writing.{stopRoom}
 use Rattle.codec.specs.Told.{Writes}
-use Rattle.codec.specs.declared.refusal.Refusal.the-variants.{BufferOverflow, RecordNotMade}
+use Rattle.codec.specs.declared.refusal.Refusal.the-variants.{BufferOverflow}
 use Rattle.codec.specs.declared.writer.Written.{Written}
 use Rattle.codec.specs.declared.writer.Written.the-variants.{Refused as NotWritten}
 use Rattle.listing.specs.Text.{textOf}
+use Rattle.listing.specs.Parts.{filled, nothing, behind}
 use Rattle.listing.specs.Step.{opened, stepOf, closing}
 use Rattle.listing.specs.declared.line.Line.{Line}
-use Rattle.listing.specs.declared.line.Line.the-variants.{Cut, End}
+use Rattle.listing.specs.declared.line.Line.the-variants.{Refused, Cut, End}
 use Rattle.listing.specs.declared.Listing.{Listing}
-use Rattle.listing.specs.declared.Listed.the-variants.{Line as Found, Nothing, Refused}
 
 -- ---- Listing::new
 -- the count starts at 0
@@ -22,7 +24,7 @@ pub new-count : opened 0 0 .count ≡ 0
 new-count = refl
 
 -- and between records: an input that ends there is not cut
-pub new-between : closing (opened 0 0) ≡ Found (End 0)
+pub new-between : closing (opened 0 0) ≡ got (End 0 ∷ [])
 new-between = refl
 
 -- ---- Listing::next (and must-fail/count_stays)
@@ -36,20 +38,33 @@ next-stops = refl
 
 -- nor across the chunk's: two of its five bytes have come, and no line is given
 pub next-waits : stepOf (opened 3 0) (5 ∷ 8 ∷ 9 ∷ []) 0
-    ≡ record { state = record { count = 3; wanted = 5; held = 2; bytes = 8 ∷ 9 ∷ replicate 58 0 }; at = 3; listed = Nothing }
+    ≡ record { state = record { count = 3; wanted = 5; held = 2; bytes = 8 ∷ 9 ∷ replicate 58 0 }; at = 3; says = got [] }
 next-waits = refl
 
 -- a state beyond its limits is not mended: more bytes held than wanted
-pub next-beyond : stepOf (inside 5 6) (1 ∷ []) 0 ≡ record { state = inside 5 6; at = 0; listed = Refused RecordNotMade }
+pub next-beyond : stepOf (inside 5 6) (1 ∷ []) 0 ≡ record { state = inside 5 6; at = 0; says = refused 5 0 }
 next-beyond = refl
+
+-- ---- Listing::fill (and must-fail/line_over_line, line_skipped, line_twice, cut_forgotten)
+-- "0 refused 1" and its end are 12 bytes: with room for 11 nothing of it is put, and its record is left to the next part
+pub fill-no-room : filled (opened 0 0) (61 ∷ replicate 61 0) 0 11 ≡ nothing (opened 0 0) 0 (got false)
+fill-no-room = refl
+
+-- with room for 12 it is the part, and the chunk is used up
+pub fill-all : filled (opened 0 0) (61 ∷ replicate 61 0) 0 12 ≡ behind (textOf (Refused 0 1)) (nothing (opened 1 0) 62 (got true))
+fill-all = refl
+
+-- a state beyond its limits is refused before the room is looked at
+pub fill-beyond : filled (inside 5 6) (1 ∷ []) 0 0 ≡ nothing (inside 5 6) 0 (refused 5 0)
+fill-beyond = refl
 
 -- ---- Listing::finish
 -- an input that stops inside a record does not end
-pub finish-cut : closing (inside 5 2) ≡ Found (Cut 3)
+pub finish-cut : closing (inside 5 2) ≡ got (Cut 3 ∷ [])
 finish-cut = refl
 
 -- a state beyond its limits has no line
-pub finish-beyond : closing (inside 256 0) ≡ Refused RecordNotMade
+pub finish-beyond : closing (inside 256 0) ≡ refused 5 0
 finish-beyond = refl
 
 -- ---- line::render (and must-fail/lower_case)

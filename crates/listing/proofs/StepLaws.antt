@@ -1,7 +1,7 @@
 -- The step of the listing, case by case. Assumes nothing.
 use Prim.Native.Nat.{ℕ, _+_, _-_, _<_, _≤_}
 use mathlib.Core.Bool.{Bool, true, false}
-use mathlib.Core.List.{List, _++_}
+use mathlib.Core.List.{List, [], _∷_, _++_}
 use mathlib.Core.Path.{_≡_, refl, ap, sym, _∙_}
 use native.Mathlib.Omega.{arith}
 use borrow.Author.Tests.{lt-ltb, le-ltb, le-leb, lt-leb, eq-eqb, ne-eqb, ltb-true, leb-false}
@@ -9,20 +9,17 @@ use lib.ListN.{length, take, drop, getD, length-append}
 use lib.Seq.{sets, sets-eq, take-at, length-take-le}
 use lib.Dec.{ltb, leb, eqb}
 use Rattle.codec.specs.Pick.{pick}
-use Rattle.codec.specs.Sheet.{Answer, refused}
+use Rattle.codec.specs.Sheet.{Answer, got, refused}
 use Rattle.codec.specs.Writing.{putAt}
-use Rattle.codec.specs.declared.refusal.Refusal.the-variants.{RecordNotMade}
 use Rattle.codec.proofs.Writes.{put-fits}
 use Rattle.commands.specs.Reading.{readCommand}
 use Rattle.commands.specs.declared.DirectCommands.{DirectCommands}
 use Rattle.commands.proofs.Known.{read-long}
 use Rattle.listing.specs.Listing.{lineOf}
-use Rattle.listing.specs.Step.{inLimits, opened, keptWith, lineWith, goOn, stepOf, closing}
+use Rattle.listing.specs.Step.{Stepped, inLimits, opened, keptWith, lineWith, goOn, stepOf, closing}
 use Rattle.listing.specs.declared.line.Line.{Line}
 use Rattle.listing.specs.declared.line.Line.the-variants.{Cut, End, Refused as LineRefused}
 use Rattle.listing.specs.declared.Listing.{Listing}
-use Rattle.listing.specs.declared.Listed.the-variants.{Line as Found, Nothing, Refused}
-use Rattle.listing.specs.declared.Step.{Step}
 
 pub picked : {A : Type 0} (b : Bool) (x y : A) → b ≡ true → pick b x y ≡ x
 picked true x y e = refl
@@ -67,36 +64,36 @@ limits-inside s a b c =
 
 -- ---- a record that goes on
 pub goes-none : (s : Listing) (i : List ℕ) (at : ℕ) → length i - at < s .wanted - s .held
-    → goOn s i at ≡ record { state = keptWith s (drop at i); at = length i; listed = Nothing }
+    → goOn s i at ≡ record { state = keptWith s (drop at i); at = length i; says = got [] }
 goes-none s i at h = picked (ltb (length i - at) (s .wanted - s .held)) _ _ (lt-ltb (length i - at) (s .wanted - s .held) h)
 
 pub goes-line : (s : Listing) (i : List ℕ) (at : ℕ) → s .wanted - s .held ≤ length i - at
-    → goOn s i at ≡ record { state = opened (s .count + 1) 0; at = at + (s .wanted - s .held); listed = Found (lineWith s (take (s .wanted - s .held) (drop at i))) }
+    → goOn s i at ≡ record { state = opened (s .count + 1) 0; at = at + (s .wanted - s .held); says = got (lineWith s (take (s .wanted - s .held) (drop at i)) ∷ []) }
 goes-line s i at h = passed (ltb (length i - at) (s .wanted - s .held)) _ _ (le-ltb (length i - at) (s .wanted - s .held) h)
 
 -- what the code makes of the two
 pub made-none : (s₀ s t : Listing) (i part : List ℕ) (at : ℕ) → s ≡ s₀ → t ≡ keptWith s part → part ≡ drop at i → length i - at < s₀ .wanted - s₀ .held
-    → _≡_ {A = Step} (record { state = t; at = length i; listed = Nothing }) (goOn s₀ i at)
+    → _≡_ {A = Stepped} (record { state = t; at = length i; says = got [] }) (goOn s₀ i at)
 made-none s₀ s t i part at e f g l =
     let k : t ≡ keptWith s₀ (drop at i) = f ∙ ap (λ (x : Listing). keptWith x part) e ∙ ap (λ (p : List ℕ). keptWith s₀ p) g in
-    ap (λ (x : Listing). record { state = x; at = length i; listed = Nothing }) k ∙ sym (goes-none s₀ i at l)
+    ap (λ (x : Listing). record { state = x; at = length i; says = got [] }) k ∙ sym (goes-none s₀ i at l)
 
 pub made-line : (s₀ t : Listing) (r : Line) (i part : List ℕ) (at end : ℕ) → t ≡ opened (s₀ .count + 1) 0 → end ≡ at + (s₀ .wanted - s₀ .held)
     → r ≡ lineWith s₀ part → part ≡ take (s₀ .wanted - s₀ .held) (drop at i) → s₀ .wanted - s₀ .held ≤ length i - at
-    → _≡_ {A = Step} (record { state = t; at = end; listed = Found r }) (goOn s₀ i at)
+    → _≡_ {A = Stepped} (record { state = t; at = end; says = got (r ∷ []) }) (goOn s₀ i at)
 made-line s₀ t r i part at end e n f g l =
     let k : r ≡ lineWith s₀ (take (s₀ .wanted - s₀ .held) (drop at i)) = f ∙ ap (λ (p : List ℕ). lineWith s₀ p) g in
-    ap (λ (x : Listing). record { state = x; at = end; listed = Found r }) e
-    ∙ ap (λ (m : ℕ). record { state = opened (s₀ .count + 1) 0; at = m; listed = Found r }) n
-    ∙ ap (λ (x : Line). record { state = opened (s₀ .count + 1) 0; at = at + (s₀ .wanted - s₀ .held); listed = Found x }) k
+    ap (λ (x : Listing). record { state = x; at = end; says = got (r ∷ []) }) e
+    ∙ ap (λ (m : ℕ). record { state = opened (s₀ .count + 1) 0; at = m; says = got (r ∷ []) }) n
+    ∙ ap (λ (x : Line). record { state = opened (s₀ .count + 1) 0; at = at + (s₀ .wanted - s₀ .held); says = got (x ∷ []) }) k
     ∙ sym (goes-line s₀ i at l)
 
 -- ---- the step
-pub step-refused : (s : Listing) (i : List ℕ) (at : ℕ) → inLimits s ≡ false → stepOf s i at ≡ record { state = s; at = at; listed = Refused RecordNotMade }
+pub step-refused : (s : Listing) (i : List ℕ) (at : ℕ) → inLimits s ≡ false → stepOf s i at ≡ record { state = s; at = at; says = refused 5 0 }
 step-refused s i at h = passed (inLimits s) _ _ h
 
 module _ (s : Listing) (i : List ℕ) (at : ℕ) (h : inLimits s ≡ true) where
-  pub step-none : length i ≤ at → stepOf s i at ≡ record { state = s; at = at; listed = Nothing }
+  pub step-none : length i ≤ at → stepOf s i at ≡ record { state = s; at = at; says = got [] }
   step-none l = picked (inLimits s) _ _ h ∙ picked (leb (length i) at) _ _ (le-leb (length i) at l)
 
   pub step-opens : at < length i → s .wanted ≡ 0 → stepOf s i at ≡ goOn (opened (s .count) (getD i at 0)) i (at + 1)
@@ -112,13 +109,13 @@ module _ (s : Listing) (i : List ℕ) (at : ℕ) (h : inLimits s ≡ true) where
       ∙ passed (eqb (s .wanted) 0) _ _ (ne-eqb (s .wanted) 0 e)
 
 -- ---- the end
-pub closing-end : (s : Listing) → inLimits s ≡ true → s .wanted ≡ 0 → closing s ≡ Found (End (s .count))
+pub closing-end : (s : Listing) → inLimits s ≡ true → s .wanted ≡ 0 → closing s ≡ got (End (s .count) ∷ [])
 closing-end s h e = picked (inLimits s) _ _ h ∙ picked (eqb (s .wanted) 0) _ _ (eq-eqb (s .wanted) 0 e)
 
-pub closing-cut : (s : Listing) → inLimits s ≡ true → (s .wanted ≡ 0 → ⊥) → closing s ≡ Found (Cut (s .count))
+pub closing-cut : (s : Listing) → inLimits s ≡ true → (s .wanted ≡ 0 → ⊥) → closing s ≡ got (Cut (s .count) ∷ [])
 closing-cut s h e = picked (inLimits s) _ _ h ∙ passed (eqb (s .wanted) 0) _ _ (ne-eqb (s .wanted) 0 e)
 
-pub closing-refused : (s : Listing) → inLimits s ≡ false → closing s ≡ Refused RecordNotMade
+pub closing-refused : (s : Listing) → inLimits s ≡ false → closing s ≡ refused 5 0
 closing-refused s h = passed (inLimits s) _ _ h
 
 -- ---- what is kept, and the line of it

@@ -6,7 +6,7 @@ use mathlib.Core.Path.{_≡_, refl, ap, sym, subst, _∙_}
 use native.Mathlib.Omega.{arith}
 use native.Mathlib.Nat.{div-lt-iff-lt-mul, zero-lt-suc, pow-suc}
 use borrow.Author.Tests.{lt-ltb, le-ltb, ltb-true, ltb-false}
-use lib.ListN.{length, take, drop, set, length-set, length-drop}
+use lib.ListN.{length, take, drop, set, length-set, length-drop, length-append}
 use lib.Seq.{sets, sets-eq, set-split, drop-at, length-take-le}
 use lib.Dec.{ltb}
 use Rattle.codec.specs.Pick.{pick}
@@ -17,8 +17,10 @@ use Rattle.codec.specs.declared.writer.Written.{Written}
 use Rattle.codec.specs.declared.writer.Written.the-variants.{Count, Refused as RefusedWrite}
 use Rattle.codec.specs.declared.refusal.Refusal.the-variants.{BufferOverflow}
 use Rattle.codec.proofs.InTurn.{writes-stop, writes-all, item-goes}
-use Rattle.codec.proofs.Writes.{put-fits, out-told}
-use Rattle.listing.specs.Text.{digits, decimal}
+use Rattle.codec.proofs.Writes.{put-fits, put-not, out-told}
+use Rattle.listing.specs.Text.{hexOf, digits, decimal, readWord, refusedWord, space, newline, textOf, PutsText}
+use Rattle.listing.specs.declared.line.Line.{Line}
+use Rattle.listing.specs.declared.line.Line.the-variants.{Read, Refused, Cut, End}
 
 front : (s w : List ℕ) (a at : ℕ) → a + length w ≡ at → at ≤ length s → drop a (sets s a w) ≡ w ++ drop at s
 front s w a at k l =
@@ -109,21 +111,67 @@ module _ (at n i r : ℕ) (s₀ s : List ℕ) (l : 20 ≤ at) (h : at ≤ length
         (q, (put .0, (omega (arith, d .1 .1 .1 .0), ap (λ (x : List ℕ). x ++ drop (i - 1) (set s (i - 1) (48 + r % 10))) (sym a) ∙ put .1 .1))),
       )
 
--- ---- a text at its end, put at the front of a lent slice
+-- ---- a text at its end, put at a place of a lent slice
 text-length : (t w : List ℕ) (start : ℕ) → length t ≡ 64 → drop start t ≡ w → length w ≡ 64 - start
 text-length t w start l e = ap length (sym e) ∙ length-drop start t ∙ ap (λ (n : ℕ). n - start) l
 
-pub text-stop : (t w s : List ℕ) (start : ℕ) → length t ≡ 64 → drop start t ≡ w → length s < 64 - start
-    → Writes (stopRoom (length s) (length w)) w (RefusedWrite BufferOverflow) s s
-text-stop t w s start l e h =
-    writes-stop (stopRoom (length s) (length w)) w s BufferOverflow (rw (lt-ltb (length s) (length w) (omega (arith, text-length t w start l e))))
+module _ (l : Line) (t s : List ℕ) (at start : ℕ) (h : length t ≡ 64) (e : drop start t ≡ textOf l) (f : at ≤ length s) where
+  pub puts-not : length s - at < 64 - start → PutsText l at 0 s s
+  puts-not g =
+      let n = text-length t (textOf l) start h e in record {
+        count = rw (lt-ltb (length s - at) (length (textOf l)) (omega arith));
+        leaves = sym (put-not s at (textOf l) (omega arith));
+        longest = omega arith;
+      }
 
-pub text-put : (t w s s' part : List ℕ) (start : ℕ) → length t ≡ 64 → drop start t ≡ w → 64 - start ≤ length s → part ≡ drop start t → s' ≡ putAt s 0 part
-    → Writes (stopRoom (length s) (length w)) w (Count (64 - start)) s s'
-text-put t w s s' part start l e h g f =
-    let n = text-length t w start l e in
-    writes-all (stopRoom (length s) (length w)) (64 - start) w s s' (rw (le-ltb (length s) (length w) (omega arith))) (sym n)
-    (f ∙ ap (λ (x : List ℕ). putAt s 0 x) (g ∙ e) ∙ put-fits s 0 w (omega arith))
+  pub puts-all : (s' part : List ℕ) → 64 - start ≤ length s - at → part ≡ drop start t → s' ≡ putAt s at part → PutsText l at (64 - start) s s'
+  puts-all s' part g i j =
+      let n = text-length t (textOf l) start h e in record {
+        count = rw (le-ltb (length s - at) (length (textOf l)) (omega arith)) (sym n);
+        leaves = j ∙ ap (λ (x : List ℕ). putAt s at x) (i ∙ e);
+        longest = omega arith;
+      }
+
+-- no text is empty
+pub text-some : (l : Line) → 0 < length (textOf l)
+text-some (Read k f n) = rw (length-append (decimal k) (readWord ++ (hexOf f ++ (space ++ (decimal n ++ newline))))) (omega arith)
+text-some (Refused k n) = rw (length-append (decimal k) (refusedWord ++ (decimal n ++ newline))) (omega arith)
+text-some (Cut k) = omega arith
+text-some (End k) = omega arith
+
+-- so 0 tells that a text has no room, and any other number that it had
+module _ (l : Line) (at k : ℕ) (s s' : List ℕ) (p : PutsText l at k s s') (h : at ≤ length s) where
+  pub puts-none : k ≡ 0 → (length s < at + length (textOf l)) × (s' ≡ s)
+  puts-none e = by (ltb (length s - at) (length (textOf l))) refl (sym e ∙ p .count)
+    where
+      by : (b : Bool) → ltb (length s - at) (length (textOf l)) ≡ b → 0 ≡ pick b 0 (length (textOf l)) → (length s < at + length (textOf l)) × (s' ≡ s)
+      by true g f =
+          let r : length s < at + length (textOf l) = omega (arith, ltb-true (length s - at) (length (textOf l)) g) in
+          (r, p .leaves ∙ put-not s at (textOf l) r)
+      by false g f = absurd (omega (arith, text-some l))
+
+  pub puts-some : (k ≡ 0 → ⊥) → (k ≡ length (textOf l)) × ((at + k ≤ length s) × (s' ≡ sets s at (textOf l)))
+  puts-some e = by (ltb (length s - at) (length (textOf l))) refl (p .count)
+    where
+      by : (b : Bool) → ltb (length s - at) (length (textOf l)) ≡ b → k ≡ pick b 0 (length (textOf l))
+          → (k ≡ length (textOf l)) × ((at + k ≤ length s) × (s' ≡ sets s at (textOf l)))
+      by true g f = absurd (e f)
+      by false g f =
+          let r : at + length (textOf l) ≤ length s = omega (arith, ltb-false (length s - at) (length (textOf l)) g) in
+          (f, (omega arith, p .leaves ∙ put-fits s at (textOf l) r))
+
+-- a text at the front of a lent slice
+pub text-stop : (l : Line) (k : ℕ) (s s' : List ℕ) → PutsText l 0 k s s' → k ≡ 0
+    → Writes (stopRoom (length s) (length (textOf l))) (textOf l) (RefusedWrite BufferOverflow) s s'
+text-stop l k s s' p e =
+    let n = puts-none l 0 k s s' p (omega arith) e in
+    rw (n .1) (writes-stop (stopRoom (length s) (length (textOf l))) (textOf l) s BufferOverflow (rw (lt-ltb (length s) (length (textOf l)) (omega arith))))
+
+pub text-put : (l : Line) (k : ℕ) (s s' : List ℕ) → PutsText l 0 k s s' → (k ≡ 0 → ⊥)
+    → Writes (stopRoom (length s) (length (textOf l))) (textOf l) (Count k) s s'
+text-put l k s s' p e =
+    let n = puts-some l 0 k s s' p (omega arith) e in
+    writes-all (stopRoom (length s) (length (textOf l))) k (textOf l) s s' (rw (le-ltb (length s) (length (textOf l)) (omega arith))) (n .0) (n .1 .1)
 
 -- what is counted had room
 pub written-fits : (r : Written) (k : ℕ) (w s s' : List ℕ) → Writes (stopRoom (length s) (length w)) w r s s' → r ≡ Count k → k ≤ length s
@@ -131,3 +179,35 @@ written-fits r k w s s' h e =
     let g : got k ≡ counted (stopRoom (length s) (length w)) (length w) = sym (ap toldWritten e) ∙ out-told r (stopRoom (length s) (length w)) (length w) (h .0) in
     let i = item-goes true (length s) (length w) 0 k g in
     omega (arith, i .1 .0, i .1 .1)
+
+-- ---- no text is longer than LONGEST: its numbers have at most 20 digits
+digits-length : (f k n : ℕ) → n < 10 ^ suc k → length (digits f n) ≤ suc k
+digits-length zero k n h = omega arith
+digits-length (suc f) k n h = by (ltb n 10) refl (λ j. digits-length f j (n / 10))
+  where
+    by : (b : Bool) → ltb n 10 ≡ b → ((j : ℕ) → n / 10 < 10 ^ suc j → length (digits f (n / 10)) ≤ suc j) → length (digits (suc f) n) ≤ suc k
+    by true e more = rw e (omega arith)
+    by false e more =
+        let m = room (suc k) n (ltb-false n 10 e) h in
+        rw (e, length-append (digits f (n / 10)) ((48 + n % 10) ∷ [])) (omega (arith, m .1 .0, more (m .0) (m .1 .1)))
+
+decimal-length : (n : ℕ) → n < 18446744073709551616 → length (decimal n) ≤ 20
+decimal-length n h = let p : 10 ^ 20 ≡ 100000000000000000000 = refl in digits-length (suc n) 19 n (rw p (omega arith))
+
+-- a line's numbers are what its types hold
+abbrev pub Typed : Line → Type 0
+Typed (Read k f n) = (k < 18446744073709551616) × (n < 18446744073709551616)
+Typed (Refused k n) = (k < 18446744073709551616) × (n < 18446744073709551616)
+Typed (Cut k) = k < 18446744073709551616
+Typed (End k) = k < 18446744073709551616
+
+ends-length : (k : ℕ) → k < 18446744073709551616 → length (decimal k ++ newline) ≤ 21
+ends-length k h = rw (length-append (decimal k) newline) (omega (arith, decimal-length k h))
+
+pub longest : (l : Line) → Typed l → length (textOf l) ≤ 64
+longest (Read k f n) h =
+    rw (length-append (decimal k) (readWord ++ (hexOf f ++ (space ++ (decimal n ++ newline))))) (omega (arith, decimal-length k (h .0), ends-length n (h .1)))
+longest (Refused k n) h =
+    rw (length-append (decimal k) (refusedWord ++ (decimal n ++ newline))) (omega (arith, decimal-length k (h .0), ends-length n (h .1)))
+longest (Cut k) h = omega (arith, ends-length k h)
+longest (End k) h = omega (arith, ends-length k h)

@@ -8,7 +8,6 @@ use lib.Dec.{ltb, leb, eqb}
 use Rattle.codec.specs.Pick.{pick}
 use Rattle.codec.specs.Sheet.{Answer, got, refused}
 use Rattle.codec.specs.Refusals.{refusalNumber}
-use Rattle.codec.specs.declared.refusal.Refusal.the-variants.{RecordNotMade}
 use Rattle.commands.specs.Reading.{readCommand}
 use Rattle.listing.specs.Listing.{lineOf}
 use Rattle.listing.specs.declared.line.Line.{Line}
@@ -23,6 +22,15 @@ abbrev pub toldListed : Listed → Answer (List Line)
 toldListed (Found l) = got (l ∷ [])
 toldListed Nothing = got []
 toldListed (Refused r) = refused (refusalNumber r) 0
+
+-- and a step: the state after it, the place where the next goes on, and that
+pub record Stepped : Type 0 where
+  pub state : Listing
+  pub at : ℕ
+  pub says : Answer (List Line)
+
+abbrev pub toldStep : Step → Stepped
+toldStep x = record { state = x .state; at = x .at; says = toldListed (x .listed) }
 
 -- a state's own limits: a count that can be raised; between records both numbers 0, else fewer bytes held than wanted
 abbrev pub inLimits : Listing → Bool
@@ -49,24 +57,24 @@ abbrev pub lineWith : Listing → List ℕ → Line
 lineWith s t = lineOf (s .count) (pick (ltb 60 (s .wanted)) (refused 1 0) (readCommand (take (s .held) (s .bytes) ++ t)))
 
 -- a record that goes on at a place of a chunk: to its end, or to the chunk's
-abbrev pub goOn : Listing → List ℕ → ℕ → Step
+abbrev pub goOn : Listing → List ℕ → ℕ → Stepped
 goOn s i at =
     pick (ltb (length i - at) (s .wanted - s .held))
-    (record { state = keptWith s (drop at i); at = length i; listed = Nothing })
+    (record { state = keptWith s (drop at i); at = length i; says = got [] })
     (record {
       state = opened (s .count + 1) 0;
       at = at + (s .wanted - s .held);
-      listed = Found (lineWith s (take (s .wanted - s .held) (drop at i)));
+      says = got (lineWith s (take (s .wanted - s .held) (drop at i)) ∷ []);
     })
 
 -- THE step. "A state handed in beyond its own limits .. is 5, before all else, and comes back as it was."
-abbrev pub stepOf : Listing → List ℕ → ℕ → Step
+abbrev pub stepOf : Listing → List ℕ → ℕ → Stepped
 stepOf s i at =
     pick (inLimits s)
-    (pick (leb (length i) at) (record { state = s; at = at; listed = Nothing })
+    (pick (leb (length i) at) (record { state = s; at = at; says = got [] })
     (pick (eqb (s .wanted) 0) (goOn (opened (s .count) (getD i at 0)) i (at + 1)) (goOn s i at)))
-    (record { state = s; at = at; listed = Refused RecordNotMade })
+    (record { state = s; at = at; says = refused 5 0 })
 
 -- the input has ended
-abbrev pub closing : Listing → Listed
-closing s = pick (inLimits s) (pick (eqb (s .wanted) 0) (Found (End (s .count))) (Found (Cut (s .count)))) (Refused RecordNotMade)
+abbrev pub closing : Listing → Answer (List Line)
+closing s = pick (inLimits s) (pick (eqb (s .wanted) 0) (got (End (s .count) ∷ [])) (got (Cut (s .count) ∷ []))) (refused 5 0)

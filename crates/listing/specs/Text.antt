@@ -1,8 +1,11 @@
 -- Document 01, "The listing": the text of a line, in ASCII. Assumes nothing.
-use Prim.Native.Nat.{ℕ, zero, suc, _+_, _/_, _%_}
+use Prim.Native.Nat.{ℕ, zero, suc, _+_, _-_, _≤_, _/_, _%_}
+use mathlib.Core.Path.{_≡_}
 use mathlib.Core.List.{List, [], _∷_, _++_}
+use lib.ListN.{length}
 use lib.Dec.{ltb}
 use Rattle.codec.specs.Pick.{pick}
+use Rattle.codec.specs.Writing.{putAt}
 use Rattle.listing.specs.declared.line.Line.{Line}
 use Rattle.listing.specs.declared.line.Line.the-variants.{Read, Refused, Cut, End}
 
@@ -45,3 +48,9 @@ textOf (Read k f n) = decimal k ++ (readWord ++ (hexOf f ++ (space ++ (decimal n
 textOf (Refused k n) = decimal k ++ (refusedWord ++ (decimal n ++ newline))
 textOf (Cut k) = cutWord ++ (decimal k ++ newline)
 textOf (End k) = endWord ++ (decimal k ++ newline)
+
+-- For private contracts only: a line's text put at a place of s, where it has room, leaves s'; it has r bytes, or none was put and r is 0
+pub record PutsText (line : Line) (at r : ℕ) (s s' : List ℕ) : Type 0 where
+  pub count : r ≡ pick (ltb (length s - at) (length (textOf line))) 0 (length (textOf line))
+  pub leaves : s' ≡ putAt s at (textOf line)
+  pub longest : length (textOf line) ≤ 64

@@ -4,7 +4,8 @@ ghost use Prim.Native.Nat.{_+_, _≤_, _<_};
 ghost use lib.ListN.{length};
 ghost use Rattle.commands.specs.Reading.{readCommand};
 ghost use Rattle.listing.specs.Listing.{lineOf};
-ghost use Rattle.listing.specs.Step.{inLimits, opened, keptWith, lineWith, goOn, stepOf, closing};
+ghost use Rattle.listing.specs.Parts.{filled, Fills, Moves};
+ghost use Rattle.listing.specs.Step.{toldListed, toldStep, inLimits, opened, keptWith, lineWith, goOn, stepOf, closing};
 use codec::refusal::Outcome;
 use codec::refusal::Refusal;
 use commands::DirectCommands;
@@ -40,6 +41,21 @@ pub struct Step {
     pub state: Listing,
     pub at: usize,
     pub listed: Listed,
+}
+
+// Why a part ends: the chunk is used up; the next line has no room; or a number, for a state beyond its limits.
+pub enum Stop {
+    Used,
+    Full,
+    Refused(Refusal),
+}
+
+// The state after a part's lines, the place in the chunk where the next part goes on, and how many bytes of text there are.
+pub struct Part {
+    pub state: Listing,
+    pub at: usize,
+    pub n: usize,
+    pub stop: Stop,
 }
 
 // Nothing of a record's payload has come yet.
@@ -145,7 +161,7 @@ impl Listing {
     // A record that goes on in this chunk.
     fn go_on(self, input: &[u8], at: usize) -> Step
         requires { ⌜ (at ≤ length (now input)) × ((self .count < 18446744073709551615) × (self .held < self .wanted)) ⌝ }
-        ensures { λ r. ⌜ r ≡ goOn self (now (input .entry)) at ⌝ }
+        ensures { λ r. ⌜ toldStep r ≡ goOn self (now (input .entry)) at ⌝ }
     {
         let left = self.wanted - self.held;
         if input.len() - at < left {
@@ -164,8 +180,8 @@ impl Listing {
     }
 
     // One record from a place of the chunk on, or all that is left of the chunk.
-    pub fn next(self, input: &[u8], at: usize) -> Step
-        ensures { λ r. ⌜ r ≡ stepOf self (now (input .entry)) at ⌝ }
+    fn next(self, input: &[u8], at: usize) -> Step
+        ensures { λ r. ⌜ toldStep r ≡ stepOf self (now (input .entry)) at ⌝ }
     {
         if self.in_limits() {
             if input.len() <= at {
@@ -187,9 +203,56 @@ impl Listing {
         }
     }
 
+    // The text of the lines from a place of the chunk on, as many as have room.
+    pub fn fill(self, input: &[u8], at: usize, text: &mut [u8]) -> Part
+        ensures { λ r. ⌜ Fills (filled self (now (input .entry)) at (length (now (text .entry)))) r (now (text .entry)) (now (text .exit)) ⌝ }
+        ensures { λ r. ⌜ Moves at (now (input .entry)) r (now (text .entry)) ⌝ }
+    {
+        let mut s = self;
+        let mut i = at;
+        let mut n: usize = 0;
+        loop {
+            let step = s.next(input, i);
+            let listed = step.listed;
+            let after = step.state;
+            match listed {
+                Listed::Line(line) => {
+                    let k = line::put_text(line, text, n);
+                    if k == 0 {
+                        return Part {
+                            state: s,
+                            at: i,
+                            n: n,
+                            stop: Stop::Full,
+                        };
+                    }
+                    n += k;
+                    s = after;
+                    i = step.at;
+                }
+                Listed::Nothing => {
+                    return Part {
+                        state: after,
+                        at: step.at,
+                        n: n,
+                        stop: Stop::Used,
+                    };
+                }
+                Listed::Refused(r) => {
+                    return Part {
+                        state: after,
+                        at: step.at,
+                        n: n,
+                        stop: Stop::Refused(r),
+                    };
+                }
+            }
+        }
+    }
+
     // The input has ended.
     pub fn finish(self) -> Listed
-        ensures { λ r. ⌜ r ≡ closing self ⌝ }
+        ensures { λ r. ⌜ toldListed r ≡ closing self ⌝ }
     {
         if self.in_limits() {
             if self.wanted == 0 {
@@ -204,7 +267,7 @@ impl Listing {
 // A record whose length byte stands before `at`: where the chunk has all of it, nothing is copied.
 fn begin(count: u64, wanted: usize, input: &[u8], at: usize) -> Step
     requires { ⌜ (at ≤ length (now input)) × ((count < 18446744073709551615) × (wanted ≤ 255)) ⌝ }
-    ensures { λ r. ⌜ r ≡ goOn (opened count wanted) (now (input .entry)) at ⌝ }
+    ensures { λ r. ⌜ toldStep r ≡ goOn (opened count wanted) (now (input .entry)) at ⌝ }
 {
     if input.len() - at < wanted {
         return Step {

@@ -5,7 +5,7 @@ ghost use Prim.Native.Nat.{_+_, _-_, _≤_, _<_};
 ghost use lib.ListN.{length, drop};
 ghost use Rattle.codec.specs.Writing.{stopRoom};
 ghost use Rattle.codec.specs.Told.{Writes};
-ghost use Rattle.listing.specs.Text.{hexDigit, hexOf, decimal, newline, textOf};
+ghost use Rattle.listing.specs.Text.{hexDigit, hexOf, decimal, newline, textOf, PutsText};
 use codec::refusal::Refusal;
 use codec::writer::Written;
 
@@ -112,16 +112,28 @@ fn put_line(text: &mut [u8], line: Line) -> usize
     }
 }
 
-// The text at the front of `out`, where all of it has room; else 3.
-pub fn render(line: Line, out: &mut [u8]) -> Written
-    ensures { λ r. ⌜ Writes (stopRoom (length (now (out .entry))) (length (textOf line))) (textOf line) r (now (out .entry)) (now (out .exit)) ⌝ }
+// The text at a place of `out`, where all of it has room there: the answer is its length, else 0.
+pub(crate) fn put_text(line: Line, out: &mut [u8], at: usize) -> usize
+    requires { ⌜ at ≤ length (now out) ⌝ }
+    ensures { λ r. ⌜ PutsText line at r (now (out .entry)) (now (out .exit)) ⌝ }
 {
     let mut text = [0u8; 64];
     let start = put_line(&mut text, line);
     let n = 64 - start;
-    if out.len() < n {
+    if out.len() - at < n {
+        return 0;
+    }
+    codec::writer::put_bytes(out, at, &text[start..]);
+    n
+}
+
+// The text at the front of `out`, where all of it has room; else 3.
+pub fn render(line: Line, out: &mut [u8]) -> Written
+    ensures { λ r. ⌜ Writes (stopRoom (length (now (out .entry))) (length (textOf line))) (textOf line) r (now (out .entry)) (now (out .exit)) ⌝ }
+{
+    let n = put_text(line, out, 0);
+    if n == 0 {
         return Written::Refused(Refusal::BufferOverflow);
     }
-    codec::writer::put_bytes(out, 0, &text[start..]);
     Written::Count(n)
 }

@@ -1,34 +1,33 @@
--- `list_all` meets its contract. Assumes nothing.
+-- `list_all` meets its contract: the state is that after the chunks read. Assumes nothing.
+use borrow.Author.Tests.{not-false}
 use borrow.Author.Needs.{needs}
-use Prim.Native.Nat.{_-_, _≤_}
-use mathlib.Core.Path.{_≡_}
-use lib.ListN.{length}
+use native.Mathlib.Omega.{arith}
+use Prim.Native.Nat.{_-_}
+use mathlib.Core.Path.{_≡_, refl, sym, subst}
+use lib.ListN.{length, take}
+use Rattle.listing.specs.Chunks.{After}
+use Rattle.listing.specs.declared.Listing.{Listing}
+use Rattle.listing.proofs.Parts.{after-none, after-more}
 use Rattle.crsf_list.proofs.list_all.Statement.{statement}
 use Rattle.crsf_list.proofs.list_all.Tie as tie
 
 abbrev Inv-loop : tie.InvT-loop
-Inv-loop input₀ text₀ s₀ n₀ turn₀ t10 input text s n turn = ((n ≤ length text₀) × (length text ≡ length text₀)) × (length input ≡ length input₀)
+Inv-loop fd name input₀ text₀ s₀ chunks₀ input text s chunks = After chunks s × ((length text ≡ length text₀) × (length input ≡ length input₀))
 
 abbrev μ-loop : tie.MeasureT-loop
-μ-loop input₀ text₀ s₀ n₀ turn₀ t10 input text s n turn = 18446744073709551615 - turn
+μ-loop fd name input₀ text₀ s₀ chunks₀ input text s chunks = 18446744073709551615 - chunks
 
 new-requires : tie.Need-new-requires Inv-loop μ-loop
 new-requires c κs = search needs
 
 loop-holds : tie.Need-loop-holds Inv-loop μ-loop
-loop-holds c = search needs
+loop-holds c = (subst (λ (s : Listing). After 0 s) (sym (c .new .ensures)) after-none, (refl, refl))
 
 read-requires : tie.Need-read-requires Inv-loop μ-loop
 read-requires c κs = search needs
 
-slice-aggregate-fail : tie.Need-slice-aggregate-fail Inv-loop μ-loop
-slice-aggregate-fail c = search needs
-
 fail-requires : tie.Need-fail-requires Inv-loop μ-loop
 fail-requires c κs = search needs
-
-write-out-requires : tie.Need-write-out-requires Inv-loop μ-loop
-write-out-requires c κs = search needs
 
 same-length : tie.Need-same-length Inv-loop μ-loop
 same-length c = search needs
@@ -72,14 +71,14 @@ same-length-6 c = search needs
 returns-3 : tie.Need-returns-3 Inv-loop μ-loop
 returns-3 c = search needs
 
-add-turn : tie.Need-add-turn Inv-loop μ-loop
-add-turn c = search needs
+add-chunks : tie.Need-add-chunks Inv-loop μ-loop
+add-chunks c = search needs
 
 loop-less : tie.Need-loop-less Inv-loop μ-loop
 loop-less c = search needs
 
 loop-again : tie.Need-loop-again Inv-loop μ-loop
-loop-again c = search needs
+loop-again c = (after-more _ _ _ (take (c .before .before .before .before .before .before .before .before .count .result) (c .before .before .before .before .before .before .before .before .before .before .before .before .before .before .read .last .1 .0)) (c .before .before .before .before .before .before .before .before .before .before .before .before .before .before .before .before .before .loop .inv .0) (c .before .before .before .before .before .list-chunk .ensures (not-false _ (c .before .if3 .left)) .0), search needs)
 
 same-length-7 : tie.Need-same-length-7 Inv-loop μ-loop
 same-length-7 c = search needs
@@ -99,9 +98,7 @@ list-all-spec =
     new-requires
     loop-holds
     read-requires
-    slice-aggregate-fail
     fail-requires
-    write-out-requires
     same-length
     same-length-2
     returns
@@ -116,7 +113,7 @@ list-all-spec =
     same-length-5
     same-length-6
     returns-3
-    add-turn
+    add-chunks
     loop-less
     loop-again
     same-length-7

@@ -1,55 +1,80 @@
--- `list_chunk` meets its contract. Assumes nothing.
+-- `list_chunk` meets its contract: state and place are those behind so many parts, so that the next part is what is handed to be written.
+-- Each part moves on in the chunk. Assumes nothing.
 use borrow.Author.Needs.{needs}
-use Prim.Native.Nat.{_-_, _≤_}
-use mathlib.Core.Path.{_≡_}
+use native.Mathlib.Omega.{arith}
+use Prim.Native.Nat.{ℕ, _-_}
+use mathlib.Core.Path.{_≡_, refl, ap, sym, _∙_}
+use denote.Ref.{now}
 use lib.ListN.{length}
+use Rattle.listing.specs.Parts.{toldStop}
+use Rattle.listing.proofs.Parts.{SoFar, so-far-starts}
+use Rattle.crsf_list.proofs.Turns.{part-handed, part-next, part-less, part-last}
 use Rattle.crsf_list.proofs.list_chunk.Statement.{statement}
 use Rattle.crsf_list.proofs.list_chunk.Tie as tie
 
 abbrev Inv-loop : tie.InvT-loop
-Inv-loop input text₀ waiting s₀ at₀ n₀ turn₀ text s at n turn = (n ≤ length text₀) × (length text ≡ length text₀)
+Inv-loop chunks first input text₀ s₀ at₀ turn₀ text s at turn = SoFar (length text₀) first input turn s at × (length text ≡ length text₀)
 
 abbrev μ-loop : tie.MeasureT-loop
-μ-loop input text₀ waiting s₀ at₀ n₀ turn₀ text s at n turn = 18446744073709551615 - turn
+μ-loop chunks first input text₀ s₀ at₀ turn₀ text s at turn = length input - at
 
 loop-holds : tie.Need-loop-holds Inv-loop μ-loop
-loop-holds c = search needs
+loop-holds c = (so-far-starts _ _ _, refl)
 
-next-requires : tie.Need-next-requires Inv-loop μ-loop
-next-requires c κs = search needs
+fill-requires : tie.Need-fill-requires Inv-loop μ-loop
+fill-requires c κs = search needs
 
-enum-known-listed : tie.Need-enum-known-listed Inv-loop μ-loop
-enum-known-listed c = search needs
-
-put-requires : tie.Need-put-requires Inv-loop μ-loop
-put-requires c κs = search needs
+write-part-requires : tie.Need-write-part-requires Inv-loop μ-loop
+write-part-requires c κs = let given = c .before .before .before .before .before .before .before .before .before .args in
+    let at-loop = c .before .before .before .before .before .before .loop in
+    part-handed (length (now (given .text))) (given .first) (at-loop .s) (now (given .input)) (at-loop .text) _ (at-loop .at) (at-loop .turn) (c .before .before .before .before .fill .result) (at-loop .inv .1) (at-loop .inv .0) (c .before .before .before .before .fill .ensures .0)
 
 same-length : tie.Need-same-length Inv-loop μ-loop
 same-length c = search needs
 
 returns : tie.Need-returns Inv-loop μ-loop
-returns c = search needs
+returns c = λ e. let z : _≡_ {A = ℕ} 0 1 = cc in absurd (omega arith)
+
+enum-told : tie.Need-enum-told Inv-loop μ-loop
+enum-told c = search needs
 
 add-turn : tie.Need-add-turn Inv-loop μ-loop
-add-turn c = search needs
+add-turn c = let given = c .before .before .before .before .before .before .before .before .before .before .before .before .before .args in
+    let at-loop = c .before .before .before .before .before .before .before .before .before .before .loop in
+    let g = part-next (length (now (given .text))) (given .first) (at-loop .s) (now (given .input)) (at-loop .text) _ (at-loop .at) (at-loop .turn) (c .before .before .before .before .before .before .before .before .fill .result) (at-loop .inv .1) (at-loop .inv .0) (c .before .before .before .before .before .before .before .before .fill .ensures .0) (c .before .before .before .before .before .before .before .before .fill .ensures .1) (c .before .before .before .before .before .before .before .before .before .before .before .before .before .pre .0) (c .enum-told .given .1) in
+    record { fits = omega (arith, g .turns, g .within) }
 
 loop-less : tie.Need-loop-less Inv-loop μ-loop
-loop-less c = search needs
+loop-less c = let given = c .before .before .before .before .before .before .before .before .before .before .before .before .before .args in
+    let at-loop = c .before .before .before .before .before .before .before .before .before .before .loop in
+    part-less (length (now (given .text))) (given .first) (at-loop .s) (now (given .input)) (at-loop .text) _ (at-loop .at) (at-loop .turn) (c .before .before .before .before .before .before .before .before .fill .result) (at-loop .inv .1) (at-loop .inv .0) (c .before .before .before .before .before .before .before .before .fill .ensures .0) (c .before .before .before .before .before .before .before .before .fill .ensures .1) (c .before .before .before .before .before .before .before .before .before .before .before .before .before .pre .0) (c .enum-told .given .1)
 
 loop-again : tie.Need-loop-again Inv-loop μ-loop
-loop-again c = search needs
+loop-again c = let given = c .before .before .before .before .before .before .before .before .before .before .before .before .before .args in
+    let at-loop = c .before .before .before .before .before .before .before .before .before .before .loop in
+    (part-next (length (now (given .text))) (given .first) (at-loop .s) (now (given .input)) (at-loop .text) _ (at-loop .at) (at-loop .turn) (c .before .before .before .before .before .before .before .before .fill .result) (at-loop .inv .1) (at-loop .inv .0) (c .before .before .before .before .before .before .before .before .fill .ensures .0) (c .before .before .before .before .before .before .before .before .fill .ensures .1) (c .before .before .before .before .before .before .before .before .before .before .before .before .before .pre .0) (c .enum-told .given .1), search needs)
+
+enum-told-2 : tie.Need-enum-told-2 Inv-loop μ-loop
+enum-told-2 c = search needs
 
 same-length-2 : tie.Need-same-length-2 Inv-loop μ-loop
 same-length-2 c = search needs
 
 returns-2 : tie.Need-returns-2 Inv-loop μ-loop
-returns-2 c = search needs
+returns-2 c = let given = c .before .before .before .before .before .before .before .before .before .before .before .before .before .args in
+    let at-loop = c .before .before .before .before .before .before .before .before .before .before .loop in
+    λ e. part-last (length (now (given .text))) (given .first) (at-loop .s) (now (given .input)) (at-loop .text) _ (at-loop .at) (at-loop .turn) (c .before .before .before .before .before .before .before .before .fill .result) (at-loop .inv .1) (at-loop .inv .0) (c .before .before .before .before .before .before .before .before .fill .ensures .0) (λ f. let g = sym (ap toldStop (c .enum-told2 .given .1)) ∙ f in let z : _≡_ {A = ℕ} 0 1 = cc in omega arith)
+
+enum-told-3 : tie.Need-enum-told-3 Inv-loop μ-loop
+enum-told-3 c = search needs
 
 same-length-3 : tie.Need-same-length-3 Inv-loop μ-loop
 same-length-3 c = search needs
 
 returns-3 : tie.Need-returns-3 Inv-loop μ-loop
-returns-3 c = search needs
+returns-3 c = let given = c .before .before .before .before .before .before .before .before .before .before .before .before .before .args in
+    let at-loop = c .before .before .before .before .before .before .before .before .before .before .loop in
+    λ e. part-last (length (now (given .text))) (given .first) (at-loop .s) (now (given .input)) (at-loop .text) _ (at-loop .at) (at-loop .turn) (c .before .before .before .before .before .before .before .before .fill .result) (at-loop .inv .1) (at-loop .inv .0) (c .before .before .before .before .before .before .before .before .fill .ensures .0) (λ f. let g = sym (ap toldStop (c .enum-told3 .given .1)) ∙ f in let z : _≡_ {A = ℕ} 0 1 = cc in omega arith)
 
 pub list-chunk-spec : {M : Type 1} → statement M
 list-chunk-spec =
@@ -58,15 +83,17 @@ list-chunk-spec =
     Inv-loop
     μ-loop
     loop-holds
-    next-requires
-    enum-known-listed
-    put-requires
+    fill-requires
+    write-part-requires
     same-length
     returns
+    enum-told
     add-turn
     loop-less
     loop-again
+    enum-told-2
     same-length-2
     returns-2
+    enum-told-3
     same-length-3
     returns-3)

@@ -1,64 +1,41 @@
 -- `list_chunk` meets its contract. Assumes nothing.
-use borrow.Author.Needs.{needs}
+use native.Mathlib.Omega.{arith}
 use Prim.Native.Nat.{_-_, _≤_}
-use mathlib.Core.Path.{_≡_}
-use lib.ListN.{length}
+use denote.Ref.{now}
+use lib.ListN.{length, take, drop, length-take, length-drop}
+use Rattle.listing.proofs.Parts.{part-text}
+use borrow.Author.Needs.{needs}
 use Rattle.list_cases.proofs.list_chunk.Statement.{statement}
 use Rattle.list_cases.proofs.list_chunk.Tie as tie
 
-abbrev Inv-loop : tie.InvT-loop
-Inv-loop chunk text₀ count s₀ at₀ n₀ turn₀ text s at n turn = (n ≤ length text₀) × (length text ≡ length text₀)
+sub-fill : tie.Need-sub-fill
+sub-fill c = search needs
 
-abbrev μ-loop : tie.MeasureT-loop
-μ-loop chunk text₀ count s₀ at₀ n₀ turn₀ text s at n turn = 18446744073709551615 - turn
+part-fill-start : tie.Need-part-fill-start
+part-fill-start c = search needs
 
-loop-holds : tie.Need-loop-holds Inv-loop μ-loop
-loop-holds c = search needs
+part-fill-end : tie.Need-part-fill-end
+part-fill-end c = search needs
 
-next-requires : tie.Need-next-requires Inv-loop μ-loop
-next-requires c κs = search needs
+fill-requires : tie.Need-fill-requires
+fill-requires c κs = search needs
 
-enum-known-listed : tie.Need-enum-known-listed Inv-loop μ-loop
-enum-known-listed c = search needs
+add-t8 : tie.Need-add-t8
+add-t8 c = let given = c .before .before .before .before .before .before .before .before .args in
+    let f = part-text (given .state) (now (given .chunk)) 0 (c .before .before .before .before .fill .result) (take (length (now (given .text)) - given .n) (drop (given .n) (now (given .text)))) _ (c .before .before .before .before .fill .ensures .0) in
+    let l : length (take (length (now (given .text)) - given .n) (drop (given .n) (now (given .text)))) ≤ length (now (given .text)) - given .n = simp (length-take, length-drop) (omega arith) in
+    record { fits = omega (arith, f .0, c .before .before .before .before .before .before .before .before .pre) }
 
-put-requires : tie.Need-put-requires Inv-loop μ-loop
-put-requires c κs = search needs
-
-add-turn : tie.Need-add-turn Inv-loop μ-loop
-add-turn c = search needs
-
-loop-less : tie.Need-loop-less Inv-loop μ-loop
-loop-less c = search needs
-
-loop-again : tie.Need-loop-again Inv-loop μ-loop
-loop-again c = search needs
-
-same-length : tie.Need-same-length Inv-loop μ-loop
+same-length : tie.Need-same-length
 same-length c = search needs
 
-returns : tie.Need-returns Inv-loop μ-loop
-returns c = search needs
-
-same-length-2 : tie.Need-same-length-2 Inv-loop μ-loop
-same-length-2 c = search needs
-
-returns-2 : tie.Need-returns-2 Inv-loop μ-loop
-returns-2 c = search needs
+returns : tie.Need-returns
+returns c = let given = c .before .before .before .before .before .before .before .before .args in
+    let f = part-text (given .state) (now (given .chunk)) 0 (c .before .before .before .before .fill .result) (take (length (now (given .text)) - given .n) (drop (given .n) (now (given .text)))) _ (c .before .before .before .before .fill .ensures .0) in
+    let l : length (take (length (now (given .text)) - given .n) (drop (given .n) (now (given .text)))) ≤ length (now (given .text)) - given .n = simp (length-take, length-drop) (omega arith) in
+    omega (arith, f .0, c .before .before .before .before .before .before .before .before .pre)
 
 pub list-chunk-spec : {M : Type 1} → statement M
 list-chunk-spec =
     tie.close
-    (tie.spec
-    Inv-loop
-    μ-loop
-    loop-holds
-    next-requires
-    enum-known-listed
-    put-requires
-    add-turn
-    loop-less
-    loop-again
-    same-length
-    returns
-    same-length-2
-    returns-2)
+    (tie.spec sub-fill part-fill-start part-fill-end fill-requires add-t8 same-length returns)

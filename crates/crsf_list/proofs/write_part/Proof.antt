@@ -1,0 +1,20 @@
+-- `write_part` meets its contract. Assumes nothing.
+use mathlib.Core.Path.{sym}
+use denote.Ref.{now}
+use lib.Seq.{length-take-le}
+use borrow.Author.Needs.{needs}
+use Rattle.crsf_list.proofs.write_part.Statement.{statement}
+use Rattle.crsf_list.proofs.write_part.Tie as tie
+
+slice-aggregate-write-out : tie.Need-slice-aggregate-write-out
+slice-aggregate-write-out c = let given = c .before .before .before .args in
+    sym (length-take-le (given .n) (now (given .text)) (c .before .before .before .pre .fits))
+
+write-out-requires : tie.Need-write-out-requires
+write-out-requires c κs = search needs
+
+returns : tie.Need-returns
+returns c = search needs
+
+pub write-part-spec : {M : Type 1} → statement M
+write-part-spec = tie.close (tie.spec slice-aggregate-write-out write-out-requires returns)
