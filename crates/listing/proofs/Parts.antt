@@ -12,6 +12,7 @@ use lib.Seq.{sets, length-sets}
 use lib.Dec.{ltb, leb, eqb}
 use Rattle.crc.specs.Check.{Bytes}
 use Rattle.codec.specs.Pick.{pick}
+use Rattle.codec.proofs.Writes.{out-some}
 use Rattle.codec.specs.Sheet.{Answer, got, refused}
 use Rattle.codec.specs.declared.refusal.Refusal.{Refusal}
 use Rattle.codec.specs.Refusals.{refusalNumber, valueIn}
@@ -417,8 +418,7 @@ module _ (s : Listing) (l : Line) (x : Written) (t t' : List ℕ) (h : closing s
   pub closing-not-refused : (r : Refusal) → 64 ≤ length t → x ≡ NotWritten r → ⊥
   closing-not-refused r m e =
       let f : stopRoom (length t) (length (textOf l)) ≡ 0 = rw (le-ltb (length t) (length (textOf l)) (omega (arith, closing-longest s l h))) in
-      let g = rw (f, e) at (w .0) in
-      let z : _≡_ {A = ℕ} 0 1 = cc in omega arith
+      out-some r (length (textOf l)) (rw (f, e) at (w .0))
 
   pub closing-text : (n : ℕ) → 64 ≤ length t → x ≡ Count n → (n ≤ length t') × (take n t' ≡ textOfClosing s)
   closing-text n m e =
