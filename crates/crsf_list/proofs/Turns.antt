@@ -1,8 +1,8 @@
 -- A turn of the loop over a chunk's parts. Assumes nothing.
-use Prim.Native.Nat.{ℕ, suc, _+_, _-_, _<_, _≤_}
+use Prim.Native.Nat.{ℕ, zero, suc, _+_, _-_, _<_, _≤_}
 use mathlib.Core.Bool.{false}
 use mathlib.Core.List.{List}
-use mathlib.Core.Path.{_≡_, ap, sym, subst, _∙_}
+use mathlib.Core.Path.{_≡_, refl, ap, sym, subst, _∙_}
 use native.Mathlib.Omega.{arith}
 use native.Mathlib.Numerals.{add-one}
 use lib.ListN.{length}
@@ -38,3 +38,7 @@ module _ (room : ℕ) (s₀ s : Listing) (i t t' : List ℕ) (at k : ℕ) (r : P
 
   pub part-last : (toldStop (r .stop) ≡ got false → ⊥) → (r .state ≡ stateIn (chunk s₀ i)) × (textOfParts room s₀ i (suc k) ≡ textOfChunk s₀ i)
   part-last f = rw (← e) (so-far-ends s₀ s i t t' at k r here h f)
+
+pub some : (n : ℕ) → (n ≡ 0 → ⊥) → 0 < n
+some zero h = absurd (h refl)
+some (suc n) h = omega arith

@@ -125,11 +125,11 @@ fn list_all(fd: i32, name: &[u8], input: &mut [u8], text: &mut [u8])
             os::fail(name);
             return;
         }
-        if got == 0 {
+        let count = io::count(got, input);
+        if count == 0 {
             close(chunks, s, text);
             return;
         }
-        let count = io::count(got, input);
         let p = list_chunk(chunks, s, &input[..count], text);
         if !p.wrote {
             return;

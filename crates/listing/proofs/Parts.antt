@@ -24,7 +24,7 @@ use Rattle.codec.proofs.Loops.{sets-append}
 use Rattle.listing.specs.Listing.{listing}
 use Rattle.listing.specs.Text.{textOf, PutsText}
 use Rattle.listing.specs.Step.{Stepped, toldListed, toldStep, inLimits, opened, goOn, stepOf, closing}
-use Rattle.listing.specs.Chunks.{Fed, fed, linesIn, stateIn, before, steps, chunk, inChunks, joined, afterChunks, After}
+use Rattle.listing.specs.Chunks.{Fed, fed, linesIn, stateIn, before, steps, chunk, inChunks, joined, afterChunks, NoneEmpty, After}
 use Rattle.listing.specs.Parts.{toldStop, Filled, nothing, behind, byLine, fillFrom, filled, Fills, Moves, parts, textOfParts, textOfLines, textOfChunk, textOfChunks, textOfClosing}
 use Rattle.listing.specs.declared.line.Line.{Line}
 use Rattle.listing.specs.declared.line.Line.the-variants.{Cut, End}
@@ -390,11 +390,16 @@ after-append s [] c = refl
 after-append s (d ∷ cs) c = after-append (stateIn (chunk s d)) cs c
 
 pub after-none : After 0 (opened 0 0)
-after-none = record { chunks = []; count = refl; state = refl }
+after-none = record { chunks = []; some = tt; count = refl; state = refl }
 
-pub after-more : (k : ℕ) (s t : Listing) (c : List ℕ) → After k s → t ≡ stateIn (chunk s c) → After (k + 1) t
-after-more k s t c a e = record {
+none-append : (cs : List (List ℕ)) (c : List ℕ) → NoneEmpty cs → 0 < length c → NoneEmpty (cs ++ c ∷ [])
+none-append [] c h l = (l, tt)
+none-append (d ∷ cs) c h l = (h .0, none-append cs c (h .1) l)
+
+pub after-more : (k : ℕ) (s t : Listing) (c : List ℕ) → After k s → 0 < length c → t ≡ stateIn (chunk s c) → After (k + 1) t
+after-more k s t c a l e = record {
   chunks = a .chunks ++ c ∷ [];
+  some = none-append (a .chunks) c (a .some) l;
   count = length-append (a .chunks) (c ∷ []) ∙ ap (λ (n : ℕ). n + 1) (a .count);
   state = e ∙ ap (λ (x : Listing). stateIn (chunk x c)) (a .state) ∙ sym (after-append (opened 0 0) (a .chunks) c);
 }

@@ -1,5 +1,5 @@
 -- An input fed in chunks: all lines of each chunk, one step after the other, then what closes the listing. Assumes nothing.
-use Prim.Native.Nat.{ℕ, zero, suc}
+use Prim.Native.Nat.{ℕ, zero, suc, _<_}
 use mathlib.Core.List.{List, [], _∷_, _++_}
 use mathlib.Core.Path.{_≡_}
 use lib.ListN.{length}
@@ -48,8 +48,13 @@ abbrev pub afterChunks : Listing → List (List ℕ) → Listing
 afterChunks s [] = s
 afterChunks s (c ∷ cs) = afterChunks (stateIn (chunk s c)) cs
 
+abbrev pub NoneEmpty : List (List ℕ) → Type 0
+NoneEmpty [] = Unit {0}
+NoneEmpty (c ∷ cs) = (0 < length c) × NoneEmpty cs
+
 -- a state after so many chunks, whatever they held
 pub record After (k : ℕ) (s : Listing) : Type 0 where
   pub chunks : List (List ℕ)
+  pub some : NoneEmpty chunks
   pub count : length chunks ≡ k
   pub state : s ≡ afterChunks (opened 0 0) chunks

@@ -18,7 +18,7 @@ pub enum Line {
 }
 
 // No text of a line is longer.
-pub const LONGEST: usize = 64;
+const LONGEST: usize = 64;
 
 fn digit(n: u64) -> u8
     requires { ⌜ n < 10 ⌝ }
@@ -68,12 +68,12 @@ fn put_hex(text: &mut [u8], at: usize, n: u8) -> usize
     put_word(text, at, &two)
 }
 
-// All of a line's text, up to its end at 64.
+// All of a line's text, up to the end of `text`.
 fn put_read(text: &mut [u8], count: u64, family: u8, written: usize) -> usize
     requires { ⌜ length (now text) ≡ 64 ⌝ }
     ensures { λ r. ⌜ (r ≤ 64) × (drop r (now (text .exit)) ≡ textOf (Line.Read count family written)) ⌝ }
 {
-    let end = put_word(text, 64, b"\n");
+    let end = put_word(text, LONGEST, b"\n");
     let number = put_decimal(text, end, written as u64);
     let space = put_word(text, number, b" ");
     let id = put_hex(text, space, family);
@@ -85,7 +85,7 @@ fn put_refused(text: &mut [u8], count: u64, why: u8) -> usize
     requires { ⌜ length (now text) ≡ 64 ⌝ }
     ensures { λ r. ⌜ (r ≤ 64) × (drop r (now (text .exit)) ≡ textOf (Line.Refused count why)) ⌝ }
 {
-    let end = put_word(text, 64, b"\n");
+    let end = put_word(text, LONGEST, b"\n");
     let number = put_decimal(text, end, why as u64);
     let word = put_word(text, number, b" refused ");
     put_decimal(text, word, count)
@@ -95,7 +95,7 @@ fn put_last(text: &mut [u8], word: &[u8], count: u64) -> usize
     requires { ⌜ (length (now text) ≡ 64) × (length (now word) ≤ 8) ⌝ }
     ensures { λ r. ⌜ (r ≤ 64) × (drop r (now (text .exit)) ≡ now (word .entry) ++ (decimal count ++ newline)) ⌝ }
 {
-    let end = put_word(text, 64, b"\n");
+    let end = put_word(text, LONGEST, b"\n");
     let number = put_decimal(text, end, count);
     put_word(text, number, word)
 }
@@ -117,9 +117,9 @@ pub(crate) fn put_text(line: Line, out: &mut [u8], at: usize) -> usize
     requires { ⌜ at ≤ length (now out) ⌝ }
     ensures { λ r. ⌜ PutsText line at r (now (out .entry)) (now (out .exit)) ⌝ }
 {
-    let mut text = [0u8; 64];
+    let mut text = [0u8; LONGEST];
     let start = put_line(&mut text, line);
-    let n = 64 - start;
+    let n = LONGEST - start;
     if out.len() - at < n {
         return 0;
     }

@@ -1,6 +1,6 @@
 -- `list_all` meets its contract: the state is that after the chunks read. Assumes nothing.
-use borrow.Author.Tests.{not-false}
 use borrow.Author.Needs.{needs}
+use borrow.Author.Tests.{not-false}
 use native.Mathlib.Omega.{arith}
 use Prim.Native.Nat.{_-_}
 use mathlib.Core.Path.{_≡_, refl, sym, subst}
@@ -8,6 +8,7 @@ use lib.ListN.{length, take}
 use Rattle.listing.specs.Chunks.{After}
 use Rattle.listing.specs.declared.Listing.{Listing}
 use Rattle.listing.proofs.Parts.{after-none, after-more}
+use Rattle.crsf_list.proofs.Turns.{some}
 use Rattle.crsf_list.proofs.list_all.Statement.{statement}
 use Rattle.crsf_list.proofs.list_all.Tie as tie
 
@@ -38,6 +39,9 @@ same-length-2 c = search needs
 returns : tie.Need-returns Inv-loop μ-loop
 returns c = search needs
 
+count-requires : tie.Need-count-requires Inv-loop μ-loop
+count-requires c κs = search needs
+
 close-requires : tie.Need-close-requires Inv-loop μ-loop
 close-requires c κs = search needs
 
@@ -49,9 +53,6 @@ same-length-4 c = search needs
 
 returns-2 : tie.Need-returns-2 Inv-loop μ-loop
 returns-2 c = search needs
-
-count-requires : tie.Need-count-requires Inv-loop μ-loop
-count-requires c κs = search needs
 
 slice-reshare-prefix-list-chunk : tie.Need-slice-reshare-prefix-list-chunk Inv-loop μ-loop
 slice-reshare-prefix-list-chunk c = search needs
@@ -78,7 +79,10 @@ loop-less : tie.Need-loop-less Inv-loop μ-loop
 loop-less c = search needs
 
 loop-again : tie.Need-loop-again Inv-loop μ-loop
-loop-again c = (after-more _ _ _ (take (c .before .before .before .before .before .before .before .before .count .result) (c .before .before .before .before .before .before .before .before .before .before .before .before .before .before .read .last .1 .0)) (c .before .before .before .before .before .before .before .before .before .before .before .before .before .before .before .before .before .loop .inv .0) (c .before .before .before .before .before .list-chunk .ensures (not-false _ (c .before .if3 .left)) .0), search needs)
+loop-again c = (
+  after-more _ _ _ (take (c .before .before .before .before .before .before .before .before .before .count .result) (c .before .before .before .before .before .before .before .before .before .before .before .before .before .before .read .last .1 .0)) (c .before .before .before .before .before .before .before .before .before .before .before .before .before .before .before .before .before .loop .inv .0) (omega (arith, some (c .before .before .before .before .before .before .before .before .before .count .result) (c .before .before .before .before .before .before .before .before .if2 .left), c .before .before .before .before .before .before .before .before .before .count .ensures .0 .1)) (c .before .before .before .before .before .list-chunk .ensures (not-false _ (c .before .if3 .left)) .0),
+  search needs,
+)
 
 same-length-7 : tie.Need-same-length-7 Inv-loop μ-loop
 same-length-7 c = search needs
@@ -102,11 +106,11 @@ list-all-spec =
     same-length
     same-length-2
     returns
+    count-requires
     close-requires
     same-length-3
     same-length-4
     returns-2
-    count-requires
     slice-reshare-prefix-list-chunk
     slice-aggregate-list-chunk
     list-chunk-requires
