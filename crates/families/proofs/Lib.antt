@@ -15,6 +15,7 @@ pub mod Judged
 pub mod PutFields
 pub mod PlaceLaws
 pub mod PopupBehind
+pub mod HeadTaken
 pub mod ScreenLaws
 pub mod ScreenBack
 pub mod OneAnswerScreen

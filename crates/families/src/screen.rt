@@ -139,7 +139,7 @@ fn popup_of(bytes: &[u8], n: usize) -> ScreenAnswer
 fn read_start(rest: &[u8]) -> ScreenAnswer
     ensures { λ r. ⌜ ScreenIs (startedBy (readPopup (now (rest .entry)) 0)) r ⌝ }
 {
-    match crate::popup::parse(rest, 0) {
+    match crate::popup::parse(rest) {
         PopupRead::Got(p) => popup_of(rest, p.values.next),
         PopupRead::Refused(n) => refused_with(n),
     }
@@ -252,7 +252,7 @@ pub fn write_to(command: ScreenCommand, bytes: &[u8], len: usize, body: &mut [u8
 fn whole_popup(s: &[u8], n: usize) -> bool
     ensures { λ r. ⌜ r ≡ isGot (whole n (readPopup (now (s .entry)) 0)) ⌝ }
 {
-    match crate::popup::parse(s, 0) {
+    match crate::popup::parse(s) {
         PopupRead::Got(p) => p.values.next == n,
         PopupRead::Refused(_) => false,
     }
@@ -343,7 +343,7 @@ fn fields_at(s: &[u8], p: Places) -> ScreenPopupFields
 fn whole_fields(s: &[u8]) -> FieldsAnswer
     ensures { λ r. ⌜ FieldsIs (whole (length (now (s .entry))) (readPopup (now (s .entry)) 0)) r ⌝ }
 {
-    match crate::popup::parse(s, 0) {
+    match crate::popup::parse(s) {
         PopupRead::Got(p) => {
             if p.values.next != s.len() {
                 return not_made();
