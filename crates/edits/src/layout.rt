@@ -3,6 +3,7 @@ ghost use mathlib.Core.Path.{_≡_};
 ghost use Prim.Native.Nat.{_+_, _≤_};
 ghost use lib.ListN.{length};
 ghost use Rattle.edits.specs.Layout.{plain as plainLayout, alone as aloneLayout, coloured as colouredLayout, vtxLayout, ledLayout, generalLayout, crossfireLayout, flowLayout, afterText, popupLayout, screenLayout};
+use codec::reader::MAX_COMMAND_STRING_LEN;
 use codec::reader::TextRead;
 use families::crossfire::CrossfireCommand;
 use families::flow_control::FlowControlCommand;
@@ -135,7 +136,7 @@ pub(crate) fn of_flow(c: FlowControlCommand) -> Layout
 fn after_text(s: &[u8], at: usize) -> usize
     ensures { λ r. ⌜ (r ≡ afterText (now (s .entry)) at) × (r ≤ length (now (s .entry))) ⌝ }
 {
-    match codec::reader::read_text(s, at, 51) {
+    match codec::reader::read_text(s, at, MAX_COMMAND_STRING_LEN) {
         TextRead::Got { len, next } => next,
         TextRead::Refused(_) => 0,
     }

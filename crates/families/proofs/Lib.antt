@@ -14,6 +14,8 @@ pub mod Made
 pub mod Judged
 pub mod PutFields
 pub mod PlaceLaws
+pub mod PopupBehind
+pub mod HeadTaken
 pub mod ScreenLaws
 pub mod ScreenBack
 pub mod OneAnswerScreen

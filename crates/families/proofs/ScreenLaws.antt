@@ -27,7 +27,7 @@ use Rattle.families.specs.Sheets.{screenRows}
 use Rattle.families.specs.Text.{zeros, padded, textOf}
 use Rattle.families.specs.Popup.{Popup, popup, readPopup, writePopup, fitted}
 use Rattle.families.specs.Fields.{popupOf, fieldsOf, whole, inspect, isGot, FieldsIs}
-use Rattle.families.specs.Screen.{ScreenSaid, started, returned, readScreen, ScreenIs}
+use Rattle.families.specs.Screen.{ScreenSaid, started, returned, readScreen, ScreenIs, startedBy}
 use Rattle.families.specs.Places.{popupAt, PlacesIn, toldPlaces, placesIn, StoredIs, spanned, headAt, moreBy, valuesBy, MoreIs, ValuesIs}
 use Rattle.families.specs.declared.text.CommandString.{CommandString}
 use Rattle.families.specs.declared.screen.ScreenAdditionalData.{ScreenAdditionalData}
@@ -59,30 +59,6 @@ pub places-refused : (s : List ℕ) (at : ℕ) (k : Refusal) (r : PopupRead) →
 places-refused s at k r e h = sym (rw e at h)
 
 -- ---- reading
-pub screen-none : (s : List ℕ) (n k : ℕ) → readItem byte (drop 0 s) ≡ refused n k → readScreen s ≡ refused n k
-screen-none s n k h = rw h
-
-pub screen-other : (s : List ℕ) (sub : ℕ) → ByteGot s 0 sub → (sub ≡ 1 → ⊥) → (sub ≡ 2 → ⊥) → readScreen s ≡ refused 2 0
-screen-other s sub x a b = rw (x .0, ne-eqb sub 1 a, ne-eqb sub 2 b)
-
-pub screen-return : (s : List ℕ) (sub v : ℕ) (b : Bool) → ByteGot s 0 sub → sub ≡ 2 → ByteGot s 1 v → FlagGot s 2 b
-    → readScreen s ≡ got (returned (said 0x02 ((v ∷ []) ∷ (bit b ∷ []) ∷ [])))
-screen-return s sub v b x e y z = rw (x .0, e, y .0, z .0)
-
-pub screen-response-not : (s : List ℕ) (sub v n k : ℕ) → ByteGot s 0 sub → sub ≡ 2 → ByteGot s 1 v → readItem flag (drop 2 s) ≡ refused n k → readScreen s ≡ refused n k
-screen-response-not s sub v n k x e y z = rw (x .0, e, y .0, z)
-
-pub screen-value-not : (s : List ℕ) (sub n k : ℕ) → ByteGot s 0 sub → sub ≡ 2 → readItem byte (drop 1 s) ≡ refused n k → readScreen s ≡ refused n k
-screen-value-not s sub n k x e y = rw (x .0, e, y)
-
-screen-start : (s : List ℕ) (sub : ℕ) → ByteGot s 0 sub → sub ≡ 1
-    → readScreen s ≡ andThen (readPopup s 1) (λ q. andThen (fitted q) (λ p. got (started p)))
-screen-start s sub x e = rw (x .0, e)
-
-pub screen-popup-not : (s : List ℕ) (sub n k : ℕ) → ByteGot s 0 sub → sub ≡ 1 → readPopup s 1 ≡ refused n k → readScreen s ≡ refused n k
-screen-popup-not s sub n k x e y =
-    screen-start s sub x e ∙ ap (λ (a : Answer Popup). andThen a (λ q. andThen (fitted q) (λ p. got (started p)))) y
-
 fit-is : (q : Popup) (r : ScreenAnswer) → StoredIs (length (writePopup q)) (writePopup q) r → ScreenIs (andThen (fitted q) (λ p. got (started p))) r
 fit-is q r h = by (leb (length (writePopup q)) 55) h
   where
@@ -96,24 +72,20 @@ pub is-by : (a b : Answer ScreenSaid) (r : ScreenAnswer) → a ≡ b → ScreenI
 is-by a b r e h = rw e h
 
 -- what was read is what would be written: the bytes are stored as they are
-pub screen-popup : (s : List ℕ) (sub n : ℕ) (q : Popup) (r : ScreenAnswer) → Bytes s → ByteGot s 0 sub → sub ≡ 1 → readPopup s 1 ≡ got q
-    → 1 + length (writePopup q) ≡ n → StoredIs (n - 1) (take (n - 1) (drop 1 s)) r → ScreenIs (readScreen s) r
-screen-popup s sub n q r y x e f g h =
-    let w = popup-forth s 1 q y (omega (arith, x .1 .1)) f in
-    let l : n - 1 ≡ length (writePopup q) = omega arith in
+pub screen-popup : (s : List ℕ) (n : ℕ) (q : Popup) (r : ScreenAnswer) → Bytes s → readPopup s 0 ≡ got q → 0 + length (writePopup q) ≡ n → StoredIs n (take n s) r → ScreenIs (startedBy (readPopup s 0)) r
+screen-popup s n q r y f g h =
+    let w = popup-forth s 0 q y (omega arith) f in
+    let l : n ≡ length (writePopup q) = omega arith in
     let k : StoredIs (length (writePopup q)) (writePopup q) r = rw (l, w .1 .1) at h in
-    is-by (readScreen s) (andThen (fitted q) (λ p. got (started p))) r
-    (screen-start s sub x e ∙ ap (λ (a : Answer Popup). andThen a (λ q. andThen (fitted q) (λ p. got (started p)))) f)
-    (fit-is q r k)
+    is-by (startedBy (readPopup s 0)) (andThen (fitted q) (λ p. got (started p))) r (ap startedBy f) (fit-is q r k)
 
 pub stored-long : (n : ℕ) (w : List ℕ) (r : ScreenAnswer) → 55 < n → ScreenIs (refused 1 0) r → StoredIs n w r
 stored-long n w r h g = rw (lt-leb n 55 h) g
 
-pub stored-short : (s : List ℕ) (n : ℕ) (b : List ℕ) → n ≤ 55 → 1 + n ≤ length s → b ≡ padded 55 (take n (drop 1 s))
-    → StoredIs n (take n (drop 1 s)) (record { outcome = Accepted; command = PopupMessageStart; popup = record { len = n; bytes = b } })
+pub stored-short : (s : List ℕ) (n : ℕ) (b : List ℕ) → n ≤ 55 → n ≤ length s → b ≡ padded 55 (take n s)
+    → StoredIs n (take n s) (record { outcome = Accepted; command = PopupMessageStart; popup = record { len = n; bytes = b } })
 stored-short s n b h l e =
-    let k : n ≤ length (drop 1 s) = rw length-drop (omega arith) in
-    let m : length (take n (drop 1 s)) ≡ n = length-take-le n (drop 1 s) k in
+    let m : length (take n s) ≡ n = length-take-le n s l in
     rw (le-leb n 55 h) (refl, (refl, rw (e, m)))
 
 pub bit-is : (b : Bool) → eqb (bit b) 1 ≡ b

@@ -10,6 +10,12 @@ use Rattle.codec.specs.Pick.{pick}
 use Rattle.codec.specs.Sheet.{Answer, got, refused}
 use Rattle.codec.specs.Refusals.{refusalNumber, outcomeNumber}
 use Rattle.codec.specs.Told.{bit}
+use Rattle.codec.specs.declared.reader.NumberRead.{NumberRead}
+use Rattle.codec.specs.declared.reader.NumberRead.the-variants.{Got as GotNumber, Refused as RefusedNumber}
+use Rattle.codec.specs.declared.reader.FlagRead.{FlagRead}
+use Rattle.codec.specs.declared.reader.FlagRead.the-variants.{Got as GotFlag, Refused as RefusedFlag}
+use Rattle.codec.specs.declared.reader.TextRead.{TextRead}
+use Rattle.codec.specs.declared.reader.TextRead.the-variants.{Got as GotText, Refused as RefusedText}
 use Rattle.families.specs.Popup.{Popup, popup, additionalOf, remains}
 use Rattle.families.specs.Fields.{popupOf}
 use Rattle.families.specs.declared.screen.ScreenAdditionalData.{ScreenAdditionalData}
@@ -60,6 +66,18 @@ HeadIn s at h =
 abbrev pub headIn : List ℕ → ℕ → HeadRead → Type 0
 headIn s at (GotHead h) = HeadIn s at h
 headIn s at (RefusedHead r) = Unit {0}
+
+-- the head of what its items answered, in their order: its places follow from the texts' lengths
+abbrev pub headBy : TextRead → TextRead → NumberRead → FlagRead → HeadRead
+headBy (GotText h p) (GotText i q) (GotNumber t) (GotFlag c) = GotHead (record { header = record { at = 0; len = h }; info = record { at = p; len = i }; timeout = t; close = c; next = p + q + 2 })
+headBy (GotText h p) (GotText i q) (GotNumber t) (RefusedFlag r) = RefusedHead r
+headBy (GotText h p) (GotText i q) (RefusedNumber r) c = RefusedHead r
+headBy (GotText h p) (RefusedText r) t c = RefusedHead r
+headBy (RefusedText r) i t c = RefusedHead r
+
+abbrev pub short : TextRead → Type 0
+short (GotText n next) = next ≤ 52
+short (RefusedText r) = Unit {0}
 
 -- ADDITIONAL DATA
 abbrev pub fourAt : Four → List (List ℕ)

@@ -7,6 +7,7 @@ use lib.Dec.{eqb}
 use Rattle.codec.specs.Pick.{pick}
 use Rattle.codec.specs.Sheet.{Answer, got, andThen, Said, said, byte, first}
 use Rattle.codec.specs.Reading.{readItem, readRow}
+use Rattle.codec.specs.Taking.{readBehind}
 use Rattle.codec.specs.Writing.{writeBody}
 use Rattle.codec.specs.Told.{bit}
 use Rattle.codec.specs.Refusals.{outcomeNumber, numberIn, valueIn}
@@ -55,3 +56,17 @@ ScreenIs a r =
 abbrev pub screenBody : ScreenCommand → List ℕ → List ℕ
 screenBody PopupMessageStart w = 0x01 ∷ w
 screenBody (SelectionReturnValue value response) w = writeBody screenRows (said 0x02 ((value ∷ []) ∷ (bit response ∷ []) ∷ []))
+
+-- For contracts of private functions, nobody has to believe what follows. A body whose sub-command was answered, from the bytes behind it
+abbrev pub startedBy : Answer Popup → Answer ScreenSaid
+startedBy a = andThen a (λ q. andThen (fitted q) (λ p. got (started p)))
+
+abbrev pub screenBehind : Answer (List ℕ) → List ℕ → Answer ScreenSaid
+screenBehind a s =
+    andThen a (λ v.
+    pick (eqb (first v) 0x01)
+    (startedBy (readPopup s 0))
+    (andThen (readBehind screenRows s (first v)) (λ b. got (returned b))))
+
+abbrev pub returnedBy : Answer (List (List ℕ)) → Answer ScreenSaid
+returnedBy a = andThen (andThen a (λ vs. got (said 0x02 vs))) (λ b. got (returned b))

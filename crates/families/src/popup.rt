@@ -5,12 +5,14 @@ ghost use Prim.Native.Nat.{_≤_, _<_};
 ghost use lib.ListN.{length, drop, getD};
 ghost use Rattle.codec.specs.Sheet.{byte};
 ghost use Rattle.codec.specs.Reading.{readItems};
+ghost use Rattle.codec.specs.Told.{atMost};
 ghost use Rattle.families.specs.Popup.{headItems, moreItems, valuesItems, additionalOf, remains, readPopup};
-ghost use Rattle.families.specs.Places.{noMore, toldHead, headIn, toldFour, fourIn, toldMore, moreIn, toldValues, valuesIn, toldPlaces, placesIn};
+ghost use Rattle.families.specs.Places.{short, headBy, noMore, toldHead, headIn, toldFour, fourIn, toldMore, moreIn, toldValues, valuesIn, toldPlaces, placesIn};
 use crate::screen::ScreenAdditionalData;
-use crate::text::MAX_COMMAND_STRING_LEN;
 use codec::reader::FlagRead;
+use codec::reader::MAX_COMMAND_STRING_LEN;
 use codec::reader::NumberRead;
+use codec::reader::Reader;
 use codec::reader::TextRead;
 use codec::reader::Width;
 use codec::refusal::Refusal;
@@ -83,29 +85,21 @@ pub(crate) enum PopupRead {
     Refused(Refusal),
 }
 
-fn read_head(s: &[u8], at: usize) -> HeadRead
-    ensures { λ r. ⌜ (toldHead (now (s .entry)) r ≡ readItems headItems (now (s .entry)) at) × headIn (now (s .entry)) at r ⌝ }
+// The places of a head follow from the lengths of its texts.
+fn head_of(header: TextRead, info: TextRead, timeout: NumberRead, close: FlagRead) -> HeadRead
+    requires { ⌜ short header × (short info × atMost 255 timeout) ⌝ }
+    ensures { λ r. ⌜ r ≡ headBy header info timeout close ⌝ }
 {
-    match codec::reader::read_text(s, at, MAX_COMMAND_STRING_LEN) {
-        TextRead::Got { len: h, next: p } => match codec::reader::read_text(
-            s,
-            p,
-            MAX_COMMAND_STRING_LEN,
-        ) {
-            TextRead::Got { len: i, next: q } => match codec::reader::read_number(
-                s,
-                q,
-                Width::One,
-                0,
-                255,
-            ) {
-                NumberRead::Got(t) => match codec::reader::read_flag(s, q + 1) {
+    match header {
+        TextRead::Got { len: h, next: p } => match info {
+            TextRead::Got { len: i, next: q } => match timeout {
+                NumberRead::Got(t) => match close {
                     FlagRead::Got(c) => HeadRead::Got(Head {
-                        header: Span { at: at, len: h },
+                        header: Span { at: 0, len: h },
                         info: Span { at: p, len: i },
                         timeout: t as u8,
                         close: c,
-                        next: q + 2,
+                        next: p + q + 2,
                     }),
                     FlagRead::Refused(r) => HeadRead::Refused(r),
                 },
@@ -115,6 +109,18 @@ fn read_head(s: &[u8], at: usize) -> HeadRead
         },
         TextRead::Refused(r) => HeadRead::Refused(r),
     }
+}
+
+// "header text, info text, timeout(1), close flag"
+fn read_head(s: &[u8]) -> HeadRead
+    ensures { λ r. ⌜ (toldHead (now (s .entry)) r ≡ readItems headItems (now (s .entry)) 0) × headIn (now (s .entry)) 0 r ⌝ }
+{
+    let mut input = Reader::new(s);
+    let header = input.string();
+    let info = input.string();
+    let timeout = input.byte();
+    let close = input.boolean();
+    head_of(header, info, timeout, close)
 }
 
 fn read_four(s: &[u8], at: usize) -> FourRead
@@ -221,11 +227,11 @@ fn read_values(s: &[u8], at: usize) -> ValuesRead
     }
 }
 
-// A popup from a place of the bytes on.
-pub(crate) fn parse(s: &[u8], at: usize) -> PopupRead
-    ensures { λ r. ⌜ (toldPlaces (now (s .entry)) r ≡ readPopup (now (s .entry)) at) × placesIn (now (s .entry)) at r ⌝ }
+// The popup at the front of the bytes.
+pub(crate) fn parse(s: &[u8]) -> PopupRead
+    ensures { λ r. ⌜ (toldPlaces (now (s .entry)) r ≡ readPopup (now (s .entry)) 0) × placesIn (now (s .entry)) 0 r ⌝ }
 {
-    match read_head(s, at) {
+    match read_head(s) {
         HeadRead::Got(h) => match read_more(s, h.next) {
             MoreRead::Got(m) => match read_values(s, m.next) {
                 ValuesRead::Got(v) => PopupRead::Got(Places {

@@ -1,28 +1,35 @@
 // 0x22 Screen: popups and the screen commands. The Rust's screen.rs; its texts are in text.rt.
 ghost use mathlib.Core.Path.{_≡_};
 ghost use mathlib.Core.List.{_∷_, []};
-ghost use Prim.Native.Nat.{_≤_, _+_};
-ghost use lib.ListN.{length, take, drop};
-ghost use Rattle.codec.specs.Sheet.{got, refused, said};
+ghost use Prim.Native.Nat.{_≤_};
+ghost use lib.ListN.{length, take};
+ghost use Rattle.codec.specs.Sheet.{got, refused, said, byte, flag};
+ghost use Rattle.codec.specs.Reading.{readItems};
 ghost use Rattle.codec.specs.Writing.{stopRoom, writeBody};
 ghost use Rattle.codec.specs.Refusals.{refusalNumber};
-ghost use Rattle.codec.specs.Told.{Writes, bit};
+ghost use Rattle.codec.specs.Told.{Writes, bit, toldNumber, toldFlag, atMost};
+ghost use Rattle.codec.specs.Taking.{inTurn};
 ghost use Rattle.families.specs.Sheets.{screenRows};
 ghost use Rattle.families.specs.Text.{textOf};
 ghost use Rattle.families.specs.Popup.{readPopup};
 ghost use Rattle.families.specs.Places.{SpanIn, spanned, PlacesIn, popupAt, StoredIs};
 ghost use Rattle.families.specs.Fields.{construct, PopupIs, fieldsOf, blankFields, whole, inspect, isGot, FieldsIs, madePopup};
-ghost use Rattle.families.specs.Screen.{returned, readScreen, ScreenIs, screenBody};
+ghost use Rattle.families.specs.Screen.{returned, readScreen, ScreenIs, screenBody, startedBy, screenBehind, returnedBy};
 use crate::popup::Places;
 use crate::popup::PopupRead;
 use crate::popup::Span;
 use crate::text::CommandString;
 use codec::reader::FlagRead;
 use codec::reader::NumberRead;
+use codec::reader::Reader;
 use codec::reader::Width;
 use codec::refusal::Outcome;
 use codec::refusal::Refusal;
 use codec::writer::Written;
+
+const SUB_COMMAND_ID_SCREEN_POPUP_MESSAGE_START: u32 = 0x01;
+
+const SUB_COMMAND_ID_SCREEN_SELECTION_RETURN_VALUE: u32 = 0x02;
 
 // "Popup data is at most 55 bytes."
 pub(crate) const MAX_POPUP_DATA_LEN: usize = 55;
@@ -110,10 +117,10 @@ fn return_of(value: u8, response: bool) -> ScreenAnswer
     }
 }
 
-// The popup of the n bytes behind the sub-command.
-fn popup_of(body: &[u8], n: usize) -> ScreenAnswer
-    requires { ⌜ 1 + n ≤ length (now body) ⌝ }
-    ensures { λ r. ⌜ StoredIs n (take n (drop 1 (now (body .entry)))) r ⌝ }
+// The popup of the first n bytes.
+fn popup_of(bytes: &[u8], n: usize) -> ScreenAnswer
+    requires { ⌜ n ≤ length (now bytes) ⌝ }
+    ensures { λ r. ⌜ StoredIs n (take n (now (bytes .entry))) r ⌝ }
 {
     if MAX_POPUP_DATA_LEN < n {
         return refused_with(Refusal::InvalidPayloadLength);
@@ -123,31 +130,64 @@ fn popup_of(body: &[u8], n: usize) -> ScreenAnswer
         command: ScreenCommand::PopupMessageStart,
         popup: ScreenPopup {
             len: n,
-            bytes: crate::text::stored(body, 1, n),
+            bytes: crate::text::stored(bytes, 0, n),
         },
+    }
+}
+
+// "01 popup", behind the sub-command.
+fn read_start(rest: &[u8]) -> ScreenAnswer
+    ensures { λ r. ⌜ ScreenIs (startedBy (readPopup (now (rest .entry)) 0)) r ⌝ }
+{
+    match crate::popup::parse(rest) {
+        PopupRead::Got(p) => popup_of(rest, p.values.next),
+        PopupRead::Refused(n) => refused_with(n),
+    }
+}
+
+fn return_by(value: NumberRead, response: FlagRead) -> ScreenAnswer
+    requires { ⌜ atMost 255 value ⌝ }
+    ensures { λ r. ⌜ ScreenIs (returnedBy (inTurn (toldNumber value ∷ toldFlag response ∷ []))) r ⌝ }
+{
+    match value {
+        NumberRead::Got(v) => match response {
+            FlagRead::Got(f) => return_of(v as u8, f),
+            FlagRead::Refused(n) => refused_with(n),
+        },
+        NumberRead::Refused(n) => refused_with(n),
+    }
+}
+
+// "02 value(1), response(flag)", behind the sub-command.
+fn read_return(rest: &[u8]) -> ScreenAnswer
+    ensures { λ r. ⌜ ScreenIs (returnedBy (readItems (byte ∷ flag ∷ []) (now (rest .entry)) 0)) r ⌝ }
+{
+    let mut input = Reader::new(rest);
+    let value = input.byte();
+    let response = input.boolean();
+    return_by(value, response)
+}
+
+// The sub-command is judged before the items behind it are taken.
+fn read_behind(sub: NumberRead, rest: &[u8]) -> ScreenAnswer
+    ensures { λ r. ⌜ ScreenIs (screenBehind (toldNumber sub) (now (rest .entry))) r ⌝ }
+{
+    match sub {
+        NumberRead::Got(sub) => match sub {
+            SUB_COMMAND_ID_SCREEN_POPUP_MESSAGE_START => read_start(rest),
+            SUB_COMMAND_ID_SCREEN_SELECTION_RETURN_VALUE => read_return(rest),
+            _ => refused_with(Refusal::InvalidPayload),
+        },
+        NumberRead::Refused(n) => refused_with(n),
     }
 }
 
 pub fn read(body: &[u8]) -> ScreenAnswer
     ensures { λ r. ⌜ ScreenIs (readScreen (now (body .entry))) r ⌝ }
 {
-    match codec::reader::read_number(body, 0, Width::One, 0, 255) {
-        NumberRead::Got(sub) => match sub {
-            0x01 => match crate::popup::parse(body, 1) {
-                PopupRead::Got(p) => popup_of(body, p.values.next - 1),
-                PopupRead::Refused(n) => refused_with(n),
-            },
-            0x02 => match codec::reader::read_number(body, 1, Width::One, 0, 255) {
-                NumberRead::Got(v) => match codec::reader::read_flag(body, 2) {
-                    FlagRead::Got(f) => return_of(v as u8, f),
-                    FlagRead::Refused(n) => refused_with(n),
-                },
-                NumberRead::Refused(n) => refused_with(n),
-            },
-            _ => refused_with(Refusal::InvalidPayload),
-        },
-        NumberRead::Refused(n) => refused_with(n),
-    }
+    let mut input = Reader::new(body);
+    let sub = input.byte();
+    read_behind(sub, input.remaining)
 }
 
 fn write_return(value: u8, response: bool, body: &mut [u8]) -> Written
@@ -157,7 +197,12 @@ fn write_return(value: u8, response: bool, body: &mut [u8]) -> Written
         return Written::Refused(Refusal::BufferOverflow);
     }
     let b = codec::writer::bit_of(response);
-    codec::writer::put_number(body, 0, Width::One, 0x02);
+    codec::writer::put_number(
+        body,
+        0,
+        Width::One,
+        SUB_COMMAND_ID_SCREEN_SELECTION_RETURN_VALUE,
+    );
     codec::writer::put_number(body, 1, Width::One, value as u32);
     codec::writer::put_number(body, 2, Width::One, b as u32);
     Written::Count(3)
@@ -170,7 +215,12 @@ fn write_popup(bytes: &[u8], body: &mut [u8]) -> Written
     if body.len() <= bytes.len() {
         return Written::Refused(Refusal::BufferOverflow);
     }
-    codec::writer::put_number(body, 0, Width::One, 0x01);
+    codec::writer::put_number(
+        body,
+        0,
+        Width::One,
+        SUB_COMMAND_ID_SCREEN_POPUP_MESSAGE_START,
+    );
     codec::writer::put_bytes(body, 1, bytes);
     Written::Count(bytes.len() + 1)
 }
@@ -202,7 +252,7 @@ pub fn write_to(command: ScreenCommand, bytes: &[u8], len: usize, body: &mut [u8
 fn whole_popup(s: &[u8], n: usize) -> bool
     ensures { λ r. ⌜ r ≡ isGot (whole n (readPopup (now (s .entry)) 0)) ⌝ }
 {
-    match crate::popup::parse(s, 0) {
+    match crate::popup::parse(s) {
         PopupRead::Got(p) => p.values.next == n,
         PopupRead::Refused(_) => false,
     }
@@ -297,7 +347,7 @@ fn fields_at(s: &[u8], p: Places) -> ScreenPopupFields
 fn whole_fields(s: &[u8]) -> FieldsAnswer
     ensures { λ r. ⌜ FieldsIs (whole (length (now (s .entry))) (readPopup (now (s .entry)) 0)) r ⌝ }
 {
-    match crate::popup::parse(s, 0) {
+    match crate::popup::parse(s) {
         PopupRead::Got(p) => {
             if p.values.next != s.len() {
                 return not_made();

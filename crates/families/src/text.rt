@@ -6,11 +6,9 @@ ghost use Rattle.codec.specs.Writing.{nonzero};
 ghost use Rattle.codec.specs.Refusals.{refusalNumber};
 ghost use Rattle.codec.specs.Sheet.{refused};
 ghost use Rattle.families.specs.Text.{zeros, madeBytes, madeText, padded, textOf, newText, TextIs};
+use codec::reader::MAX_COMMAND_STRING_LEN;
 use codec::refusal::Outcome;
 use codec::refusal::Refusal;
-
-// "A text is up to 51 nonzero bytes"
-pub(crate) const MAX_COMMAND_STRING_LEN: usize = 51;
 
 pub struct CommandString {
     pub len: usize,

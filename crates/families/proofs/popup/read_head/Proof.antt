@@ -1,119 +1,67 @@
--- The head that is told is the head that is read, item by item. Assumes nothing.
-use native.Mathlib.Omega.{arith}
-use Prim.Native.Nat.{_+_}
-use denote.Ref.{now}
-use Rattle.families.proofs.PlaceLaws.{text-got, text-not, byte-got, byte-not, flag-got, flag-not, head-got}
-use borrow.Author.Needs.{needs}
-use Rattle.families.proofs.popup.read_head.Statement.{statement}
-use Rattle.families.proofs.popup.read_head.Tie as tie
+-- `popup::read_head` meets its contract, by the one walk of `codec`'s `Straight.antt`. Assumes nothing.
+use mathlib.Core.Path.{_≡_, ap, _∙_}
+use Prim.Native.Nat.{ℕ}
+use mathlib.Core.List.{List, [], _∷_}
+use base.Logic.{emp}
+use contract.Monad.{fact, factI}
+use contract.Running.{givenOf, tables, tablesOf}
+use denote.Triple.Spec.{tripleOf}
+use denote.Triple.Table.{entered, cited}
+use denote.Enum.Laws as EL
+use mathlib.Core.Path.{sym, subst}
+use Rattle.codec.specs.Sheet.{byte}
+use Rattle.codec.specs.Reading.{readItems}
+use Rattle.codec.specs.Told.{atMost}
+use Rattle.families.specs.Popup.{headItems}
+use Rattle.families.specs.Places.{toldHead, headIn, headBy, short}
+use Rattle.families.proofs.HeadTaken.{text-short, head-taken}
+use Rattle.codec.specs.declared.reader.FlagRead.{FlagRead}
+use Rattle.codec.specs.declared.reader.NumberRead.{NumberRead}
+use Rattle.codec.specs.declared.reader.TextRead.{TextRead}
+use Rattle.families.specs.declared.popup.HeadRead.{HeadRead}
+use Rattle.codec.proofs.Method.{One, flags, numbers, texts, flag-says, number-says, text-says, MethodC}
+use Rattle.codec.proofs.Straight.{FourJudgeC, four-meets}
+use Rattle.codec.proofs.Lent.{New}
+use Rattle.codec.proofs.reader.Reader.new.Symbol as new-def
+use Rattle.codec.proofs.reader.Reader.new.Met as new-thm
+use Rattle.codec.proofs.reader.Reader.string.Symbol as string-def
+use Rattle.codec.proofs.reader.Reader.string.Met as string-thm
+use Rattle.codec.proofs.reader.Reader.byte.Symbol as byte-def
+use Rattle.codec.proofs.reader.Reader.byte.Met as byte-thm
+use Rattle.codec.proofs.reader.Reader.boolean.Symbol as boolean-def
+use Rattle.codec.proofs.reader.Reader.boolean.Met as boolean-thm
+use Rattle.families.proofs.popup.HeadRead as Z
+use Rattle.families.proofs.popup.HeadRead.Laws as Z′
+use Rattle.families.proofs.popup.head_of.Symbol as judge-def
+use Rattle.families.proofs.popup.head_of.Met as judge-thm
+use Rattle.families.proofs.popup.read_head.Key as key
+use Rattle.families.proofs.popup.read_head as own
+use Rattle.families.proofs.popup.read_head.Statement as stated
+use Rattle.families.proofs.popup.read_head.Code as code
 
-read-text-requires : tie.Need-read-text-requires
-read-text-requires c κs = search needs
+abbrev answers : One
+answers = record { row = Z.the-row; ty = Z′.mir; typed = λ 𝓤 H A W x u p. EL.lawful Z.the-type Z′.the-laws 𝓤 H A W tt .typed x (u ∷ []) p .0 }
 
-enum-known-h : tie.Need-enum-known-h
-enum-known-h c = search needs
+abbrev Needed : TextRead → TextRead → NumberRead → FlagRead → Type 0
+Needed n m k l = short n × (short m × atMost 255 k)
 
-read-text-requires-2 : tie.Need-read-text-requires-2
-read-text-requires-2 c κs = search needs
+abbrev Judged : TextRead → TextRead → NumberRead → FlagRead → HeadRead → Type 0
+Judged n m k l z = z ≡ headBy n m k l
 
-enum-known-i : tie.Need-enum-known-i
-enum-known-i c = search needs
+abbrev Says : List ℕ → HeadRead → Type 0
+Says s z = (toldHead s z ≡ readItems headItems s 0) × headIn s 0 z
 
-read-number-requires : tie.Need-read-number-requires
-read-number-requires c κs = search needs
-
-enum-known-t : tie.Need-enum-known-t
-enum-known-t c = search needs
-
-add-read-flag : tie.Need-add-read-flag
-add-read-flag c = let h = byte-got (now (c .before .before .before .before .before .before .before .before .before .before .before .before .before .args .s)) (c .before .before .before .before .before .i .given .0 .1 .0) _ _ (c .before .t .given .1) (c .before .before .before .read-number .ensures) in omega (arith, h .1 .1)
-
-read-flag-requires : tie.Need-read-flag-requires
-read-flag-requires c κs = search needs
-
-enum-known-c : tie.Need-enum-known-c
-enum-known-c c = search needs
-
-cast-t25 : tie.Need-cast-t25
-cast-t25 c = let h = byte-got (now (c .before .before .before .before .before .before .before .before .before .before .before .before .before .before .before .before .before .args .s)) (c .before .before .before .before .before .before .before .before .before .i .given .0 .1 .0) _ _ (c .before .before .before .before .before .t .given .1) (c .before .before .before .before .before .before .before .read-number .ensures) in omega (arith, h .1 .0)
-
-add-t26 : tie.Need-add-t26
-add-t26 c = let h = byte-got (now (c .before .before .before .before .before .before .before .before .before .before .before .before .before .before .before .before .before .args .s)) (c .before .before .before .before .before .before .before .before .before .i .given .0 .1 .0) _ _ (c .before .before .before .before .before .t .given .1) (c .before .before .before .before .before .before .before .read-number .ensures) in omega (arith, h .1 .1)
-
-enum-known-r : tie.Need-enum-known-r
-enum-known-r c = search needs
-
-enum-known-r-2 : tie.Need-enum-known-r-2
-enum-known-r-2 c = search needs
-
-enum-known-r-3 : tie.Need-enum-known-r-3
-enum-known-r-3 c = search needs
-
-enum-known-r-4 : tie.Need-enum-known-r-4
-enum-known-r-4 c = search needs
-
-returns : tie.Need-returns
-returns c = let s = now (c .before .before .before .before .before .before .before .before .before .before .before .before .before .before .before .before .before .args .s) in
-    let p = c .before .before .before .before .before .before .before .before .before .before .before .before .before .h .given .0 .1 .0 in
-    let q = c .before .before .before .before .before .before .before .before .before .i .given .0 .1 .0 in
-    let x = text-got s (c .before .before .before .before .before .before .before .before .before .before .before .before .before .before .before .before .before .args .at) _ _ _ (c .before .before .before .before .before .before .before .before .before .before .before .before .before .h .given .1) (c .before .before .before .before .before .before .before .before .before .before .before .before .before .before .before .read-text .ensures) in
-    let y = text-got s p _ _ _ (c .before .before .before .before .before .before .before .before .before .i .given .1) (c .before .before .before .before .before .before .before .before .before .before .before .read-text2 .ensures) in
-    let z = byte-got s q _ _ (c .before .before .before .before .before .t .given .1) (c .before .before .before .before .before .before .before .read-number .ensures) in
-    let w = flag-got s (q + 1) (c .before .c .given .0 .0) _ (c .before .c .given .1) (c .before .before .before .read-flag .ensures) in
-    head-got s (c .before .before .before .before .before .before .before .before .before .before .before .before .before .before .before .before .before .args .at) _ p _ q _ (c .before .c .given .0 .0) x y z w
-
-returns-2 : tie.Need-returns-2
-returns-2 c = let s = now (c .before .before .before .before .before .before .before .before .before .before .before .before .before .before .before .before .before .args .s) in
-    let p = c .before .before .before .before .before .before .before .before .before .before .before .before .before .h .given .0 .1 .0 in
-    let q = c .before .before .before .before .before .before .before .before .before .i .given .0 .1 .0 in
-    let x = text-got s (c .before .before .before .before .before .before .before .before .before .before .before .before .before .before .before .before .before .args .at) _ _ _ (c .before .before .before .before .before .before .before .before .before .before .before .before .before .h .given .1) (c .before .before .before .before .before .before .before .before .before .before .before .before .before .before .before .read-text .ensures) in
-    let y = text-got s p _ _ _ (c .before .before .before .before .before .before .before .before .before .i .given .1) (c .before .before .before .before .before .before .before .before .before .before .before .read-text2 .ensures) in
-    let z = byte-got s q _ _ (c .before .before .before .before .before .t .given .1) (c .before .before .before .before .before .before .before .read-number .ensures) in
-    let w = flag-not s (q + 1) _ _ (c .before .r .given .1) (c .before .before .before .read-flag .ensures) in
-    (rw (x .0, x .1 .0, y .0, y .1 .0, z .0, w), tt)
-
-returns-3 : tie.Need-returns-3
-returns-3 c = let s = now (c .before .before .before .before .before .before .before .before .before .before .before .before .before .args .s) in
-    let p = c .before .before .before .before .before .before .before .before .before .h .given .0 .1 .0 in
-    let q = c .before .before .before .before .before .i .given .0 .1 .0 in
-    let x = text-got s (c .before .before .before .before .before .before .before .before .before .before .before .before .before .args .at) _ _ _ (c .before .before .before .before .before .before .before .before .before .h .given .1) (c .before .before .before .before .before .before .before .before .before .before .before .read-text .ensures) in
-    let y = text-got s p _ _ _ (c .before .before .before .before .before .i .given .1) (c .before .before .before .before .before .before .before .read-text2 .ensures) in
-    let w = byte-not s q _ _ (c .before .r2 .given .1) (c .before .before .before .read-number .ensures .0) in
-    (rw (x .0, x .1 .0, y .0, y .1 .0, w), tt)
-
-returns-4 : tie.Need-returns-4
-returns-4 c = let s = now (c .before .before .before .before .before .before .before .before .before .args .s) in
-    let p = c .before .before .before .before .before .h .given .0 .1 .0 in
-    let x = text-got s (c .before .before .before .before .before .before .before .before .before .args .at) _ _ _ (c .before .before .before .before .before .h .given .1) (c .before .before .before .before .before .before .before .read-text .ensures) in
-    let w = text-not s p _ _ (c .before .r3 .given .1) (c .before .before .before .read-text2 .ensures .0) in
-    (rw (x .0, x .1 .0, w), tt)
-
-returns-5 : tie.Need-returns-5
-returns-5 c = let s = now (c .before .before .before .before .before .args .s) in
-    let w = text-not s (c .before .before .before .before .before .args .at) _ _ (c .before .r4 .given .1) (c .before .before .before .read-text .ensures .0) in
-    (rw (w), tt)
-
-pub read-head-spec : {M : Type 1} → statement M
-read-head-spec =
-    tie.close
-    (tie.spec
-    read-text-requires
-    enum-known-h
-    read-text-requires-2
-    enum-known-i
-    read-number-requires
-    enum-known-t
-    add-read-flag
-    read-flag-requires
-    enum-known-c
-    cast-t25
-    add-t26
-    enum-known-r
-    enum-known-r-2
-    enum-known-r-3
-    enum-known-r-4
-    returns
-    returns-2
-    returns-3
-    returns-4
-    returns-5)
+pub read-head-spec : {M : Type 1} → stated.statement M
+unfolding code.routine tablesOf
+read-head-spec 𝓤 H 𝓜 𝓖 𝓡 =
+    entered 𝓤 H (tripleOf 𝓤 H (𝓖 .A) own.signature (own.spec 𝓤 H (𝓖 .A) (𝓜 .mem) (𝓡 .run)))
+    (tables 𝓤 H 𝓜 𝓡 code.env .C) (tables 𝓤 H 𝓜 𝓡 code.env .Λ) key.name code.function (code.unfolded 𝓤 H 𝓜 𝓡)
+    (four-meets texts texts numbers flags answers 𝓤 (λ n m k l. fact 𝓤 (Needed n m k l)) Judged H (𝓖 .A) (givenOf 𝓤 H 𝓜 𝓖) (𝓜 .mem) (𝓡 .run) text-says text-says (number-says byte 255) flag-says Says (λ s n s1 m s2 k s3 l s4 e1 e2 e3 e4. factI 𝓤 (Needed n m k l) (emp 𝓤) (text-short s n (e1 .0 .0, e1 .1), (text-short s1 m (e2 .0 .0, e2 .1), e3 .1)))
+    (λ s n s1 m s2 k s3 l s4 z e1 e2 e3 e4 f. subst (λ (x : HeadRead). (toldHead s x ≡ readItems headItems s 0) × headIn s 0 x) (sym f) (head-taken s s1 s2 s3 s4 n m k l e1 e2 e3 e4))
+    (tablesOf 𝓤 H 𝓜 (tables 𝓤 H 𝓜 𝓡 code.env)) string-def.name string-def.name byte-def.name boolean-def.name judge-def.name
+    (λ κ q s. cited 𝓤 H (New 𝓤 H (𝓖 .A) (givenOf 𝓤 H 𝓜 𝓖) κ q 0 (𝓜 .mem) (𝓡 .run) s) 𝓜 𝓡 code.env new-def.name new-def.routine code.calls-codec·reader·Reader·new (new-thm.met 𝓤 H 𝓜 𝓖 𝓡))
+    (cited 𝓤 H (MethodC texts 𝓤 text-says H (𝓖 .A)) 𝓜 𝓡 code.env string-def.name string-def.routine code.calls-codec·reader·Reader·string (string-thm.met 𝓤 H 𝓜 𝓖 𝓡))
+    (cited 𝓤 H (MethodC texts 𝓤 text-says H (𝓖 .A)) 𝓜 𝓡 code.env string-def.name string-def.routine code.calls-codec·reader·Reader·string (string-thm.met 𝓤 H 𝓜 𝓖 𝓡))
+    (cited 𝓤 H (MethodC numbers 𝓤 (number-says byte 255) H (𝓖 .A)) 𝓜 𝓡 code.env byte-def.name byte-def.routine code.calls-codec·reader·Reader·byte (byte-thm.met 𝓤 H 𝓜 𝓖 𝓡))
+    (cited 𝓤 H (MethodC flags 𝓤 flag-says H (𝓖 .A)) 𝓜 𝓡 code.env boolean-def.name boolean-def.routine code.calls-codec·reader·Reader·boolean (boolean-thm.met 𝓤 H 𝓜 𝓖 𝓡))
+    (cited 𝓤 H (FourJudgeC texts texts numbers flags answers 𝓤 (λ n m k l. fact 𝓤 (Needed n m k l)) Judged H (𝓖 .A)) 𝓜 𝓡 code.env judge-def.name judge-def.routine code.calls-families·popup·head-of (judge-thm.met 𝓤 H 𝓜 𝓖 𝓡)))

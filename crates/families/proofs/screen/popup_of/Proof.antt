@@ -15,7 +15,7 @@ stored-requires : tie.Need-stored-requires
 stored-requires c κs = search needs
 
 returns-2 : tie.Need-returns-2
-returns-2 c = stored-short (now (c .before .before .before .args .body)) (c .before .before .before .args .n) _ (c .before .if1 .left) (c .before .before .before .pre) (c .stored .ensures)
+returns-2 c = stored-short (now (c .before .before .before .args .bytes)) (c .before .before .before .args .n) _ (c .before .if1 .left) (c .before .before .before .pre) (c .stored .ensures)
 
 pub popup-of-spec : {M : Type 1} → statement M
 popup-of-spec = tie.close (tie.spec refused-with-requires returns stored-requires returns-2)

@@ -1,148 +1,52 @@
--- Reading is that of the sheet: a popup's bytes are stored as they stand. Assumes nothing.
-use native.Mathlib.Omega.{arith}
-use denote.Ref.{now}
-use Rattle.crc.proofs.Laws.{bytes-of}
-use Rattle.families.proofs.PlaceLaws.{byte-got, byte-not, flag-got, flag-not}
-use Rattle.families.proofs.ScreenLaws.{places-from, places-refused, screen-none, screen-other, screen-return, screen-response-not, screen-value-not, screen-popup-not, screen-popup, is-by}
-use borrow.Author.Needs.{needs}
-use Rattle.families.proofs.screen.read.Statement.{statement}
-use Rattle.families.proofs.screen.read.Tie as tie
+-- `screen::read` meets its contract, by the one walk of `codec`'s `Straight.antt`. Assumes nothing.
+use mathlib.Core.Path.{_≡_, ap, _∙_}
+use Prim.Native.Nat.{ℕ}
+use mathlib.Core.List.{List, [], _∷_}
+use base.Logic.{emp, id⊢}
+use contract.Running.{givenOf, tables, tablesOf}
+use denote.Triple.Spec.{tripleOf}
+use denote.Triple.Table.{entered, cited}
+use denote.Struct.Laws as EL
+use Rattle.codec.specs.Sheet.{byte}
+use Rattle.codec.specs.Told.{toldNumber}
+use Rattle.families.specs.Screen.{ScreenIs, readScreen, screenBehind}
+use Rattle.families.proofs.PopupBehind.{screen-taken}
+use Rattle.families.proofs.ScreenLaws.{is-by}
+use Rattle.codec.specs.declared.reader.NumberRead.{NumberRead}
+use Rattle.families.specs.declared.screen.ScreenAnswer.{ScreenAnswer}
+use Rattle.codec.proofs.Method.{One, numbers, number-says, MethodC}
+use Rattle.codec.proofs.Straight.{RestJudgeC, rest-meets}
+use Rattle.codec.proofs.Lent.{New}
+use Rattle.codec.proofs.reader.Reader.new.Symbol as new-def
+use Rattle.codec.proofs.reader.Reader.new.Met as new-thm
+use Rattle.codec.proofs.reader.Reader.byte.Symbol as byte-def
+use Rattle.codec.proofs.reader.Reader.byte.Met as byte-thm
+use Rattle.families.proofs.screen.ScreenAnswer as Z
+use Rattle.families.proofs.screen.ScreenAnswer.Laws as Z′
+use Rattle.families.proofs.screen.read_behind.Symbol as judge-def
+use Rattle.families.proofs.screen.read_behind.Met as judge-thm
+use Rattle.families.proofs.screen.read.Key as key
+use Rattle.families.proofs.screen.read as own
+use Rattle.families.proofs.screen.read.Statement as stated
+use Rattle.families.proofs.screen.read.Code as code
 
-read-number-requires : tie.Need-read-number-requires
-read-number-requires c κs = search needs
+abbrev answers : One
+answers = record { row = Z.the-row; ty = Z′.mir; typed = λ 𝓤 H A W x u p. EL.lawful Z.the-type Z′.the-laws 𝓤 H A W .typed x (u ∷ []) p .0 }
 
-enum-known-sub : tie.Need-enum-known-sub
-enum-known-sub c = search needs
+abbrev Judged : NumberRead → List ℕ → ScreenAnswer → Type 0
+Judged n t z = ScreenIs (screenBehind (toldNumber n) t) z
 
-parse-requires : tie.Need-parse-requires
-parse-requires c κs = search needs
+abbrev Says : List ℕ → ScreenAnswer → Type 0
+Says s z = ScreenIs (readScreen s) z
 
-enum-known-p : tie.Need-enum-known-p
-enum-known-p c = search needs
-
-sub-popup-of : tie.Need-sub-popup-of
-sub-popup-of c = let x = places-from (now (c .before .before .before .before .before .before .before .before .before .before .before .args .body)) 1 (c .before .before .p .given .0 .0) _ (c .before .before .p .given .1) (c .before .before .before .before .parse .ensures) in omega (arith, x .1 .0)
-
-popup-of-requires : tie.Need-popup-of-requires
-popup-of-requires c κs = let x = places-from (now (c .before .before .before .before .before .before .before .before .before .before .before .args .body)) 1 (c .before .before .p .given .0 .0) _ (c .before .before .p .given .1) (c .before .before .before .before .parse .ensures) in omega (arith, x .1 .0, x .1 .1 .1 .1 .1 .1 .1)
-
-enum-known-n : tie.Need-enum-known-n
-enum-known-n c = search needs
-
-refused-with-requires : tie.Need-refused-with-requires
-refused-with-requires c κs = search needs
-
-read-number-requires-2 : tie.Need-read-number-requires-2
-read-number-requires-2 c κs = search needs
-
-enum-known-v : tie.Need-enum-known-v
-enum-known-v c = search needs
-
-read-flag-requires : tie.Need-read-flag-requires
-read-flag-requires c κs = search needs
-
-enum-known-f : tie.Need-enum-known-f
-enum-known-f c = search needs
-
-cast-return-of : tie.Need-cast-return-of
-cast-return-of c = let h = byte-got (now (c .before .before .before .before .before .before .before .before .before .before .before .before .before .before .args .body)) 1 _ _ (c .before .before .before .before .before .v .given .1) (c .before .before .before .before .before .before .before .read-number2 .ensures) in omega (arith, h .1 .0)
-
-return-of-requires : tie.Need-return-of-requires
-return-of-requires c κs = search needs
-
-enum-known-n-2 : tie.Need-enum-known-n-2
-enum-known-n-2 c = search needs
-
-refused-with-requires-2 : tie.Need-refused-with-requires-2
-refused-with-requires-2 c κs = search needs
-
-enum-known-n-3 : tie.Need-enum-known-n-3
-enum-known-n-3 c = search needs
-
-refused-with-requires-3 : tie.Need-refused-with-requires-3
-refused-with-requires-3 c κs = search needs
-
-refused-with-requires-4 : tie.Need-refused-with-requires-4
-refused-with-requires-4 c κs = search needs
-
-enum-known-n-4 : tie.Need-enum-known-n-4
-enum-known-n-4 c = search needs
-
-refused-with-requires-5 : tie.Need-refused-with-requires-5
-refused-with-requires-5 c κs = search needs
-
-returns : tie.Need-returns
-returns c = let s = now (c .before .before .before .before .before .before .before .before .before .before .before .before .args .body) in
-    let x = byte-got s 0 _ _ (c .before .before .before .before .before .before .before .before .sub .given .1) (c .before .before .before .before .before .before .before .before .before .before .read-number .ensures) in
-    let y = places-from s 1 (c .before .before .before .p .given .0 .0) _ (c .before .before .before .p .given .1) (c .before .before .before .before .before .parse .ensures) in
-    screen-popup s _ _ _ (c .popup-of .result) (bytes-of s (c .before .before .before .before .before .before .before .before .before .before .before .shared-slice-known .given)) x (c .before .before .before .before .before .before .match2 .keys1) (y .0) (y .1 .0) (c .popup-of .ensures)
-
-returns-2 : tie.Need-returns-2
-returns-2 c = let s = now (c .before .before .before .before .before .before .before .before .before .before .before .args .body) in
-    let x = byte-got s 0 _ _ (c .before .before .before .before .before .before .before .sub .given .1) (c .before .before .before .before .before .before .before .before .before .read-number .ensures) in
-    let y = places-refused s 1 _ _ (c .before .before .n .given .1) (c .before .before .before .before .parse .ensures .0) in
-    is-by _ _ (c .refused-with .result) (screen-popup-not s _ _ _ x (c .before .before .before .before .before .match2 .keys1) y) (c .refused-with .ensures)
-
-returns-3 : tie.Need-returns-3
-returns-3 c = let s = now (c .before .before .before .before .before .before .before .before .before .before .before .before .before .before .before .args .body) in
-    let x = byte-got s 0 _ _ (c .before .before .before .before .before .before .before .before .before .before .before .sub .given .1) (c .before .before .before .before .before .before .before .before .before .before .before .before .before .read-number .ensures) in
-    let y = byte-got s 1 _ _ (c .before .before .before .before .before .before .v .given .1) (c .before .before .before .before .before .before .before .before .read-number2 .ensures) in
-    let z = flag-got s 2 (c .before .before .f .given .0 .0) _ (c .before .before .f .given .1) (c .before .before .before .before .read-flag .ensures) in
-    is-by _ _ (c .return-of .result) (screen-return s _ _ (c .before .before .f .given .0 .0) x (c .before .before .before .before .before .before .before .before .before .match2 .keys2) y z) (c .return-of .ensures)
-
-returns-4 : tie.Need-returns-4
-returns-4 c = let s = now (c .before .before .before .before .before .before .before .before .before .before .before .before .before .before .before .args .body) in
-    let x = byte-got s 0 _ _ (c .before .before .before .before .before .before .before .before .before .before .before .sub .given .1) (c .before .before .before .before .before .before .before .before .before .before .before .before .before .read-number .ensures) in
-    let y = byte-got s 1 _ _ (c .before .before .before .before .before .before .v .given .1) (c .before .before .before .before .before .before .before .before .read-number2 .ensures) in
-    let z = flag-not s 2 _ _ (c .before .before .n2 .given .1) (c .before .before .before .before .read-flag .ensures) in
-    is-by _ _ (c .refused-with2 .result) (screen-response-not s _ _ _ _ x (c .before .before .before .before .before .before .before .before .before .match2 .keys2) y z) (c .refused-with2 .ensures)
-
-returns-5 : tie.Need-returns-5
-returns-5 c = let s = now (c .before .before .before .before .before .before .before .before .before .before .before .args .body) in
-    let x = byte-got s 0 _ _ (c .before .before .before .before .before .before .before .sub .given .1) (c .before .before .before .before .before .before .before .before .before .read-number .ensures) in
-    let y = byte-not s 1 _ _ (c .before .before .n3 .given .1) (c .before .before .before .before .read-number2 .ensures .0) in
-    is-by _ _ (c .refused-with3 .result) (screen-value-not s _ _ _ x (c .before .before .before .before .before .match2 .keys2) y) (c .refused-with3 .ensures)
-
-returns-6 : tie.Need-returns-6
-returns-6 c = let s = now (c .before .before .before .before .before .before .before .args .body) in
-    let k = c .before .match2 .rest in
-    let x = byte-got s 0 _ _ (c .before .before .before .sub .given .1) (c .before .before .before .before .before .read-number .ensures) in
-    is-by _ _ (c .refused-with4 .result) (screen-other s _ x (k .0 .1) (k .1)) (c .refused-with4 .ensures)
-
-returns-7 : tie.Need-returns-7
-returns-7 c = let s = now (c .before .before .before .before .before .before .args .body) in
-    let y = byte-not s 0 _ _ (c .before .before .n4 .given .1) (c .before .before .before .before .read-number .ensures .0) in
-    is-by _ _ (c .refused-with5 .result) (screen-none s _ _ y) (c .refused-with5 .ensures)
-
-pub read-spec : {M : Type 1} → statement M
-read-spec =
-    tie.close
-    (tie.spec
-    read-number-requires
-    enum-known-sub
-    parse-requires
-    enum-known-p
-    sub-popup-of
-    popup-of-requires
-    enum-known-n
-    refused-with-requires
-    read-number-requires-2
-    enum-known-v
-    read-flag-requires
-    enum-known-f
-    cast-return-of
-    return-of-requires
-    enum-known-n-2
-    refused-with-requires-2
-    enum-known-n-3
-    refused-with-requires-3
-    refused-with-requires-4
-    enum-known-n-4
-    refused-with-requires-5
-    returns
-    returns-2
-    returns-3
-    returns-4
-    returns-5
-    returns-6
-    returns-7)
+pub read-spec : {M : Type 1} → stated.statement M
+unfolding code.routine tablesOf
+read-spec 𝓤 H 𝓜 𝓖 𝓡 =
+    entered 𝓤 H (tripleOf 𝓤 H (𝓖 .A) own.signature (own.spec 𝓤 H (𝓖 .A) (𝓜 .mem) (𝓡 .run)))
+    (tables 𝓤 H 𝓜 𝓡 code.env .C) (tables 𝓤 H 𝓜 𝓡 code.env .Λ) key.name code.function (code.unfolded 𝓤 H 𝓜 𝓡)
+    (rest-meets numbers answers 𝓤 (λ _. emp 𝓤) Judged H (𝓖 .A) (givenOf 𝓤 H 𝓜 𝓖) (𝓜 .mem) (𝓡 .run) (number-says byte 255) Says (λ s n s1 e1. id⊢ 𝓤 (emp 𝓤))
+    (λ s n s1 z e1 f. is-by (readScreen s) (screenBehind (toldNumber n) s1) z (screen-taken (toldNumber n) s s1 (e1 .0)) f)
+    (tablesOf 𝓤 H 𝓜 (tables 𝓤 H 𝓜 𝓡 code.env)) byte-def.name judge-def.name
+    (λ κ q s. cited 𝓤 H (New 𝓤 H (𝓖 .A) (givenOf 𝓤 H 𝓜 𝓖) κ q 0 (𝓜 .mem) (𝓡 .run) s) 𝓜 𝓡 code.env new-def.name new-def.routine code.calls-codec·reader·Reader·new (new-thm.met 𝓤 H 𝓜 𝓖 𝓡))
+    (cited 𝓤 H (MethodC numbers 𝓤 (number-says byte 255) H (𝓖 .A)) 𝓜 𝓡 code.env byte-def.name byte-def.routine code.calls-codec·reader·Reader·byte (byte-thm.met 𝓤 H 𝓜 𝓖 𝓡))
+    (cited 𝓤 H (RestJudgeC numbers answers 𝓤 (λ _. emp 𝓤) Judged H (𝓖 .A)) 𝓜 𝓡 code.env judge-def.name judge-def.routine code.calls-families·screen·read-behind (judge-thm.met 𝓤 H 𝓜 𝓖 𝓡)))
