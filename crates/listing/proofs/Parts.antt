@@ -2,16 +2,13 @@
 use Prim.Native.Nat.{ℕ, zero, suc, _+_, _-_, _<_, _≤_}
 use mathlib.Core.Bool.{Bool, true, false}
 use mathlib.Core.List.{List, [], _∷_, _++_, append-assoc, append-nil}
-use mathlib.Core.Logic.{_⊎_, inl, inr, ⊎-elim}
 use mathlib.Core.Path.{_≡_, refl, ap, sym, subst, _∙_}
 use native.Mathlib.Omega.{arith}
-use native.Mathlib.Numerals.{add-one}
 use borrow.Author.Tests.{lt-ltb, le-ltb, leb-false, leb-true, ltb-true, ltb-false, eqb-true, eqb-false}
 use lib.ListN.{length, take, getD, length-append}
 use lib.Seq.{sets, length-sets}
 use lib.Dec.{ltb, leb, eqb}
 use Rattle.crc.specs.Check.{Bytes}
-use Rattle.codec.specs.Pick.{pick}
 use Rattle.codec.proofs.Writes.{out-some}
 use Rattle.codec.specs.Sheet.{Answer, got, refused}
 use Rattle.codec.specs.declared.refusal.Refusal.{Refusal}
@@ -25,11 +22,10 @@ use Rattle.listing.specs.Listing.{listing}
 use Rattle.listing.specs.Text.{textOf, PutsText}
 use Rattle.listing.specs.Step.{Stepped, toldListed, toldStep, inLimits, opened, goOn, stepOf, closing}
 use Rattle.listing.specs.Chunks.{Fed, fed, linesIn, stateIn, before, steps, chunk, inChunks, joined, afterChunks, NoneEmpty, After}
-use Rattle.listing.specs.Parts.{toldStop, Filled, nothing, behind, byLine, fillFrom, filled, Fills, Moves, parts, textOfParts, textOfLines, textOfChunk, textOfChunks, textOfClosing}
+use Rattle.listing.specs.Parts.{toldStop, Filled, nothing, behind, fillFrom, filled, Fills, Moves, parts, textOfParts, textOfLines, textOfChunk, textOfChunks, textOfClosing}
 use Rattle.listing.specs.declared.line.Line.{Line}
 use Rattle.listing.specs.declared.line.Line.the-variants.{Cut, End}
 use Rattle.listing.specs.declared.Listing.{Listing}
-use Rattle.listing.specs.declared.Listed.{Listed}
 use Rattle.listing.specs.declared.Listed.the-variants.{Line as Found, Nothing, Refused}
 use Rattle.listing.specs.declared.Step.{Step}
 use Rattle.listing.specs.declared.Stop.the-variants.{Used, Full, Refused as RefusedPart}

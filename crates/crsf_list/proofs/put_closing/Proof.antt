@@ -1,8 +1,7 @@
 -- `put_closing` meets its contract: the closing line has room. Assumes nothing.
 use native.Mathlib.Omega.{arith}
-use Prim.Native.Nat.{ℕ}
 use mathlib.Core.List.{List, []}
-use mathlib.Core.Path.{_≡_, ap, sym, _∙_}
+use mathlib.Core.Path.{ap, sym, _∙_}
 use denote.Ref.{now}
 use Rattle.codec.specs.Sheet.{Answer}
 use Rattle.codec.specs.Refusals.{valueIn}
