@@ -15,7 +15,7 @@ pub mod Judged
 pub mod PutFields
 pub mod PlaceLaws
 pub mod PopupBehind
-pub mod HeadTaken
+pub mod PopupTaken
 pub mod ScreenLaws
 pub mod ScreenBack
 pub mod OneAnswerScreen

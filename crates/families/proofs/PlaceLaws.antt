@@ -19,7 +19,7 @@ use Rattle.codec.specs.declared.reader.FlagRead.the-variants.{Got as GotFlag, R
 use Rattle.codec.specs.declared.reader.TextRead.{TextRead}
 use Rattle.codec.specs.declared.reader.TextRead.the-variants.{Got as GotText, Refused as RefusedText}
 use Rattle.codec.proofs.Texts.{after-text}
-use Rattle.codec.proofs.Bounds.{empty-text, label-text, packed-there}
+use Rattle.codec.proofs.Bounds.{empty-text, packed-there}
 use Rattle.codec.proofs.TextRange.{text-most}
 use Rattle.codec.proofs.ReadJoin.{read-join}
 use Rattle.codec.proofs.Joins.{end-is}
@@ -27,10 +27,7 @@ use Rattle.families.specs.declared.screen.ScreenAdditionalData.{ScreenAd
 use Rattle.families.specs.declared.screen.ScreenAdditionalData.the-variants.{Absent, Empty, Selection}
 use Rattle.families.specs.Sheets.{textItem}
 use Rattle.families.specs.Popup.{headItems, selectionItems, moreItems, valuesItems, popupItems, popup, additionalOf, remains, readRest, readMore, readPopup, writePopup}
-use Rattle.families.specs.Places.{none, spanned, SpanIn, headAt, HeadIn, toldHead, headIn, fourAt, toldFour, fourIn, moreBy, noMore, MoreIs, MoreIn, toldMore, moreIn, valuesBy, ValuesIs, ValuesIn, toldValues, valuesIn, popupAt, PlacesIn}
-use Rattle.families.specs.declared.popup.Four.{Four}
-use Rattle.families.specs.declared.popup.FourRead.{FourRead}
-use Rattle.families.specs.declared.popup.FourRead.the-variants.{Got as GotFour, Refused as RefusedFour}
+use Rattle.families.specs.Places.{none, spanned, SpanIn, headAt, HeadIn, toldHead, headIn, moreBy, noMore, MoreIs, MoreIn, toldMore, moreIn, valuesBy, ValuesIs, ValuesIn, toldValues, valuesIn, popupAt, PlacesIn}
 use Rattle.families.specs.declared.popup.Span.{Span}
 use Rattle.families.specs.declared.popup.Head.{Head}
 use Rattle.families.specs.declared.popup.HeadRead.{HeadRead}
@@ -109,26 +106,6 @@ head-got s at h p i q t b x y z w = (
   ),
 )
 
--- ---- the four numbers
-pub step2 : (at : ℕ) → at + 1 + 1 ≡ at + 2
-step2 at = omega arith
-
-pub step3 : (at : ℕ) → at + 2 + 1 ≡ at + 3
-step3 at = omega arith
-
-pub four-got : (s : List ℕ) (at a b c d : ℕ) → ByteGot s at a → ByteGot s (at + 1) b → ByteGot s (at + 2) c → ByteGot s (at + 3) d
-    → (got (fourAt (record { value = a; «min_value» = b; «max_value» = c; «default_value» = d })) ≡ readItems (byte ∷ byte ∷ byte ∷ byte ∷ []) s at) × (at + 4 ≤ length s)
-four-got s at a b c d x y z w =
-    (rw (x .0, y .0, step2 at, z .0, step3 at, w .0), omega (arith, w .1 .1))
-
-pub four-from : (s : List ℕ) (at : ℕ) (f : Four) (r : FourRead) → r ≡ GotFour f → (toldFour r ≡ readItems (byte ∷ byte ∷ byte ∷ byte ∷ []) s at) × fourIn s at r
-    → (got (fourAt f) ≡ readItems (byte ∷ byte ∷ byte ∷ byte ∷ []) s at) × (at + 4 ≤ length s)
-four-from s at f r e h = (rw e at (h .0), rw e at (h .1))
-
-pub four-refused : (s : List ℕ) (at : ℕ) (k : Refusal) (r : FourRead) → r ≡ RefusedFour k → toldFour r ≡ readItems (byte ∷ byte ∷ byte ∷ byte ∷ []) s at
-    → refused (refusalNumber k) 0 ≡ readItems (byte ∷ byte ∷ byte ∷ byte ∷ []) s at
-four-refused s at k r e h = rw e at h
-
 -- ---- possible values
 pub values-none : (s : List ℕ) (at : ℕ) → length s ≤ at → at ≤ length s
     → (got (valuesBy false s (record { present = false; text = none; next = at })) ≡ readItems (valuesItems (remains (drop at s))) s at)
@@ -168,62 +145,6 @@ more-absent-is s at m e h l = rw e (more-absent s at h l)
 pub more-empty-is : (s : List ℕ) (at : ℕ) (m : More) → m ≡ noMore Empty (at + 1) → at < length s → getD s at 0 ≡ 0
     → (got (moreBy (m .kind) s m) ≡ readItems (moreItems (additionalOf (drop at s))) s at) × MoreIn s at m
 more-empty-is s at m e h z = rw e (more-empty s at h z)
-
-abbrev fourBytes : List Item
-fourBytes = byte ∷ byte ∷ byte ∷ byte ∷ []
-
-four-end : (f : Four) (p : ℕ) → endOf fourBytes (fourAt f) p ≡ p + 4
-four-end f p = omega arith
-
-selection-read : (s : List ℕ) (p : ℕ) (f : Four) (u q : ℕ) → got (fourAt f) ≡ readItems fourBytes s p → TextGot s (p + 4) u q
-    → readItems selectionItems s p ≡ got (fourAt f ++ (take u (drop (p + 4) s) ∷ []))
-selection-read s p f u q e x = read-join fourBytes (textItem ∷ []) s p ∙ rw (← e, four-end f p, x .0)
-
-unit-not : (s : List ℕ) (p : ℕ) (f : Four) (n k : ℕ) → got (fourAt f) ≡ readItems fourBytes s p → readItem textItem (drop (p + 4) s) ≡ refused n k
-    → readItems selectionItems s p ≡ refused n k
-unit-not s p f n k e x = read-join fourBytes (textItem ∷ []) s p ∙ rw (← e, four-end f p, x)
-
-four-not : (s : List ℕ) (p n k : ℕ) → refused n k ≡ readItems fourBytes s p → readItems selectionItems s p ≡ refused n k
-four-not s p n k e = read-join fourBytes (textItem ∷ []) s p ∙ rw (← e)
-
--- a selection: its label, then the rest
-selection-is : (s : List ℕ) (at l p : ℕ) → at < length s → (getD s at 0 ≡ 0 → ⊥) → TextGot s at l p
-    → readItems (moreItems (additionalOf (drop at s))) s at ≡ andThen (readItems selectionItems s p) (λ vs. got (take l (drop at s) ∷ vs))
-selection-is s at l p h z x = rw (kind-selection s at h z, label-text 51 s at h z, x .0, x .1 .0)
-
-abbrev pub selectionOf : ℕ → ℕ → ℕ → Four → ℕ → ℕ → More
-selectionOf at l p f u q = record { kind = Selection; label = record { at = at; len = l }; four = f; unit = record { at = p + 4; len = u }; next = q }
-
-pub selection-got : (s : List ℕ) (at l p : ℕ) (f : Four) (u q : ℕ) → at < length s → (getD s at 0 ≡ 0 → ⊥) → TextGot s at l p
-    → got (fourAt f) ≡ readItems fourBytes s p → TextGot s (p + 4) u q
-    → (got (moreBy Selection s (selectionOf at l p f u q)) ≡ readItems (moreItems (additionalOf (drop at s))) s at) × MoreIn s at (selectionOf at l p f u q)
-selection-got s at l p f u q h z x e y = (
-  sym (selection-is s at l p h z x ∙ ap (λ (a : Answer (List (List ℕ))). andThen a (λ vs. got (take l (drop at s) ∷ vs))) (selection-read s p f u q e y)),
-  (
-    sym (kind-selection s at h z),
-    (
-      (refl, (rw (x .1 .1 .0), y .1 .1 .0)),
-      (
-        (omega (arith, x .1 .1 .1 .0), x .1 .1 .1 .1),
-        ((omega (arith, y .1 .1 .1 .0), y .1 .1 .1 .1), omega (arith, y .1 .1 .0, y .1 .1 .1 .0)),
-      ),
-    ),
-  ),
-)
-
-pub selection-unit-not : (s : List ℕ) (at l p : ℕ) (f : Four) (n k : ℕ) → at < length s → (getD s at 0 ≡ 0 → ⊥) → TextGot s at l p
-    → got (fourAt f) ≡ readItems fourBytes s p → readItem textItem (drop (p + 4) s) ≡ refused n k → refused n k ≡ readItems (moreItems (additionalOf (drop at s))) s at
-selection-unit-not s at l p f n k h z x e y =
-    sym (selection-is s at l p h z x ∙ ap (λ (a : Answer (List (List ℕ))). andThen a (λ vs. got (take l (drop at s) ∷ vs))) (unit-not s p f n k e y))
-
-pub selection-four-not : (s : List ℕ) (at l p n k : ℕ) → at < length s → (getD s at 0 ≡ 0 → ⊥) → TextGot s at l p
-    → refused n k ≡ readItems fourBytes s p → refused n k ≡ readItems (moreItems (additionalOf (drop at s))) s at
-selection-four-not s at l p n k h z x e =
-    sym (selection-is s at l p h z x ∙ ap (λ (a : Answer (List (List ℕ))). andThen a (λ vs. got (take l (drop at s) ∷ vs))) (four-not s p n k e))
-
-pub selection-label-not : (s : List ℕ) (at n k : ℕ) → at < length s → (getD s at 0 ≡ 0 → ⊥) → readItem textItem (drop at s) ≡ refused n k
-    → refused n k ≡ readItems (moreItems (additionalOf (drop at s))) s at
-selection-label-not s at n k h z x = rw (kind-selection s at h z, label-text 51 s at h z, x)
 
 -- ---- the places after the parts
 pub span-length : (s : List ℕ) (x : Span) → SpanIn s x → length (spanned s x) ≡ x .len

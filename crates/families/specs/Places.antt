@@ -1,6 +1,6 @@
 -- What the one parse of a popup tells: where its items stand. For the contracts of private functions: nobody has to believe this
 -- file. Assumes nothing.
-use Prim.Native.Nat.{ℕ, _+_, _≤_}
+use Prim.Native.Nat.{ℕ, _+_, _≤_, _<_}
 use mathlib.Core.Bool.{Bool, true, false}
 use mathlib.Core.Path.{_≡_}
 use mathlib.Core.List.{List, [], _∷_, _++_}
@@ -27,8 +27,9 @@ use Rattle.families.specs.declared.popup.Head.{Head}
 use Rattle.families.specs.declared.popup.HeadRead.{HeadRead}
 use Rattle.families.specs.declared.popup.HeadRead.the-variants.{Got as GotHead, Refused as RefusedHead}
 use Rattle.families.specs.declared.popup.Four.{Four}
-use Rattle.families.specs.declared.popup.FourRead.{FourRead}
-use Rattle.families.specs.declared.popup.FourRead.the-variants.{Got as GotFour, Refused as RefusedFour}
+use Rattle.families.specs.declared.popup.Selected.{Selected}
+use Rattle.families.specs.declared.popup.SelectedRead.{SelectedRead}
+use Rattle.families.specs.declared.popup.SelectedRead.the-variants.{Got as GotSelected, Refused as RefusedSelected}
 use Rattle.families.specs.declared.popup.More.{More}
 use Rattle.families.specs.declared.popup.MoreRead.{MoreRead}
 use Rattle.families.specs.declared.popup.MoreRead.the-variants.{Got as GotMore, Refused as RefusedMore}
@@ -83,13 +84,24 @@ short (RefusedText r) = Unit {0}
 abbrev pub fourAt : Four → List (List ℕ)
 fourAt f = (f .value ∷ []) ∷ (f .«min_value» ∷ []) ∷ (f .«max_value» ∷ []) ∷ (f .«default_value» ∷ []) ∷ []
 
-abbrev pub toldFour : FourRead → Answer (List (List ℕ))
-toldFour (GotFour f) = got (fourAt f)
-toldFour (RefusedFour r) = refused (refusalNumber r) 0
+-- a selection's items as they were answered, in their order: how long its texts are
+abbrev pub selectedBy : TextRead → NumberRead → NumberRead → NumberRead → NumberRead → TextRead → SelectedRead
+selectedBy (GotText l p) (GotNumber a) (GotNumber b) (GotNumber c) (GotNumber d) (GotText u q) =
+    GotSelected (record { label = l; four = record { value = a; «min_value» = b; «max_value» = c; «default_value» = d }; unit = u })
+selectedBy (GotText l p) (GotNumber a) (GotNumber b) (GotNumber c) (GotNumber d) (RefusedText r) = RefusedSelected r
+selectedBy (GotText l p) (GotNumber a) (GotNumber b) (GotNumber c) (RefusedNumber r) u = RefusedSelected r
+selectedBy (GotText l p) (GotNumber a) (GotNumber b) (RefusedNumber r) d u = RefusedSelected r
+selectedBy (GotText l p) (GotNumber a) (RefusedNumber r) c d u = RefusedSelected r
+selectedBy (GotText l p) (RefusedNumber r) b c d u = RefusedSelected r
+selectedBy (RefusedText r) a b c d u = RefusedSelected r
 
-abbrev pub fourIn : List ℕ → ℕ → FourRead → Type 0
-fourIn s at (GotFour f) = at + 4 ≤ length s
-fourIn s at (RefusedFour r) = Unit {0}
+abbrev pub toldSelected : List ℕ → SelectedRead → Answer (List (List ℕ))
+toldSelected s (GotSelected x) = got (take (x .label) s ∷ (fourAt (x .four) ++ (take (x .unit) (drop (x .label + 5) s) ∷ [])))
+toldSelected s (RefusedSelected r) = refused (refusalNumber r) 0
+
+abbrev pub selectedIn : List ℕ → SelectedRead → Type 0
+selectedIn s (GotSelected x) = (x .label + 5 + x .unit < length s) × ((x .label ≤ 51) × (x .unit ≤ 51))
+selectedIn s (RefusedSelected r) = Unit {0}
 
 abbrev pub moreBy : ScreenAdditionalData → List ℕ → More → List (List ℕ)
 moreBy Absent s m = []

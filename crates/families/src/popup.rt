@@ -3,11 +3,11 @@ ghost use mathlib.Core.Path.{_≡_};
 ghost use mathlib.Core.List.{_∷_, []};
 ghost use Prim.Native.Nat.{_≤_, _<_};
 ghost use lib.ListN.{length, drop, getD};
-ghost use Rattle.codec.specs.Sheet.{byte};
 ghost use Rattle.codec.specs.Reading.{readItems};
 ghost use Rattle.codec.specs.Told.{atMost};
-ghost use Rattle.families.specs.Popup.{headItems, moreItems, valuesItems, additionalOf, remains, readPopup};
-ghost use Rattle.families.specs.Places.{short, headBy, noMore, toldHead, headIn, toldFour, fourIn, toldMore, moreIn, toldValues, valuesIn, toldPlaces, placesIn};
+ghost use Rattle.families.specs.Sheets.{textItem};
+ghost use Rattle.families.specs.Popup.{headItems, selectionItems, moreItems, valuesItems, additionalOf, remains, readPopup};
+ghost use Rattle.families.specs.Places.{short, headBy, noMore, toldHead, headIn, selectedBy, toldSelected, selectedIn, toldMore, moreIn, toldValues, valuesIn, toldPlaces, placesIn};
 use crate::screen::ScreenAdditionalData;
 use codec::reader::FlagRead;
 use codec::reader::MAX_COMMAND_STRING_LEN;
@@ -44,8 +44,15 @@ pub(crate) struct Four {
     pub(crate) default_value: u8,
 }
 
-pub(crate) enum FourRead {
-    Got(Four),
+// A selection's numbers, and how many bytes its label and its unit have.
+pub(crate) struct Selected {
+    pub(crate) label: usize,
+    pub(crate) four: Four,
+    pub(crate) unit: usize,
+}
+
+pub(crate) enum SelectedRead {
+    Got(Selected),
     Refused(Refusal),
 }
 
@@ -123,36 +130,6 @@ fn read_head(s: &[u8]) -> HeadRead
     head_of(header, info, timeout, close)
 }
 
-fn read_four(s: &[u8], at: usize) -> FourRead
-    requires { ⌜ at ≤ length (now s) ⌝ }
-    ensures { λ r. ⌜ (toldFour r ≡ readItems (byte ∷ byte ∷ byte ∷ byte ∷ []) (now (s .entry)) at) × fourIn (now (s .entry)) at r ⌝ }
-{
-    match codec::reader::read_number(s, at, Width::One, 0, 255) {
-        NumberRead::Got(a) => match codec::reader::read_number(s, at + 1, Width::One, 0, 255) {
-            NumberRead::Got(b) => match codec::reader::read_number(s, at + 2, Width::One, 0, 255) {
-                NumberRead::Got(c) => match codec::reader::read_number(
-                    s,
-                    at + 3,
-                    Width::One,
-                    0,
-                    255,
-                ) {
-                    NumberRead::Got(d) => FourRead::Got(Four {
-                        value: a as u8,
-                        min_value: b as u8,
-                        max_value: c as u8,
-                        default_value: d as u8,
-                    }),
-                    NumberRead::Refused(r) => FourRead::Refused(r),
-                },
-                NumberRead::Refused(r) => FourRead::Refused(r),
-            },
-            NumberRead::Refused(r) => FourRead::Refused(r),
-        },
-        NumberRead::Refused(r) => FourRead::Refused(r),
-    }
-}
-
 fn no_more(kind: ScreenAdditionalData, next: usize) -> More
     ensures { λ r. ⌜ r ≡ noMore kind next ⌝ }
 {
@@ -170,26 +147,85 @@ fn no_more(kind: ScreenAdditionalData, next: usize) -> More
     }
 }
 
+fn selection_of(
+    label: TextRead,
+    value: NumberRead,
+    min_value: NumberRead,
+    max_value: NumberRead,
+    default_value: NumberRead,
+    unit: TextRead,
+) -> SelectedRead
+    requires { ⌜ atMost 255 value × (atMost 255 «min_value» × (atMost 255 «max_value» × atMost 255 «default_value»)) ⌝ }
+    ensures { λ r. ⌜ r ≡ selectedBy label value «min_value» «max_value» «default_value» unit ⌝ }
+{
+    match label {
+        TextRead::Got { len: l, next: _ } => match value {
+            NumberRead::Got(a) => match min_value {
+                NumberRead::Got(b) => match max_value {
+                    NumberRead::Got(c) => match default_value {
+                        NumberRead::Got(d) => match unit {
+                            TextRead::Got { len: u, next: _ } => SelectedRead::Got(Selected {
+                                label: l,
+                                four: Four {
+                                    value: a as u8,
+                                    min_value: b as u8,
+                                    max_value: c as u8,
+                                    default_value: d as u8,
+                                },
+                                unit: u,
+                            }),
+                            TextRead::Refused(r) => SelectedRead::Refused(r),
+                        },
+                        NumberRead::Refused(r) => SelectedRead::Refused(r),
+                    },
+                    NumberRead::Refused(r) => SelectedRead::Refused(r),
+                },
+                NumberRead::Refused(r) => SelectedRead::Refused(r),
+            },
+            NumberRead::Refused(r) => SelectedRead::Refused(r),
+        },
+        TextRead::Refused(r) => SelectedRead::Refused(r),
+    }
+}
+
+// "label text, value, min, max, default (1 each), unit text"
+fn take_selection(rest: &[u8]) -> SelectedRead
+    ensures { λ r. ⌜ (toldSelected (now (rest .entry)) r ≡ readItems (textItem ∷ selectionItems) (now (rest .entry)) 0) × selectedIn (now (rest .entry)) r ⌝ }
+{
+    let mut input = Reader::new(rest);
+    let label = input.string();
+    let value = input.byte();
+    let min_value = input.byte();
+    let max_value = input.byte();
+    let default_value = input.byte();
+    let unit = input.string();
+    selection_of(label, value, min_value, max_value, default_value, unit)
+}
+
 // A selection: its label is not empty.
 fn read_selection(s: &[u8], at: usize) -> MoreRead
     requires { ⌜ (at < length (now s)) × (getD (now s) at 0 ≡ 0 → ⊥) ⌝ }
     ensures { λ r. ⌜ (toldMore (now (s .entry)) r ≡ readItems (moreItems (additionalOf (drop at (now (s .entry))))) (now (s .entry)) at) × moreIn (now (s .entry)) at r ⌝ }
 {
-    match codec::reader::read_text(s, at, MAX_COMMAND_STRING_LEN) {
-        TextRead::Got { len: l, next: p } => match read_four(s, p) {
-            FourRead::Got(f) => match codec::reader::read_text(s, p + 4, MAX_COMMAND_STRING_LEN) {
-                TextRead::Got { len: u, next: q } => MoreRead::Got(More {
-                    kind: ScreenAdditionalData::Selection,
-                    label: Span { at: at, len: l },
-                    four: f,
-                    unit: Span { at: p + 4, len: u },
-                    next: q,
-                }),
-                TextRead::Refused(r) => MoreRead::Refused(r),
-            },
-            FourRead::Refused(r) => MoreRead::Refused(r),
-        },
-        TextRead::Refused(r) => MoreRead::Refused(r),
+    match take_selection(&s[at..]) {
+        SelectedRead::Got(x) => {
+            let f = x.four;
+            let unit_at = at + (x.label + 5);
+            MoreRead::Got(More {
+                kind: ScreenAdditionalData::Selection,
+                label: Span {
+                    at: at,
+                    len: x.label,
+                },
+                four: f,
+                unit: Span {
+                    at: unit_at,
+                    len: x.unit,
+                },
+                next: unit_at + (x.unit + 1),
+            })
+        }
+        SelectedRead::Refused(r) => MoreRead::Refused(r),
     }
 }
 

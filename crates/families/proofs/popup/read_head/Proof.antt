@@ -14,7 +14,7 @@ use Rattle.codec.specs.Reading.{readItems}
 use Rattle.codec.specs.Told.{atMost}
 use Rattle.families.specs.Popup.{headItems}
 use Rattle.families.specs.Places.{toldHead, headIn, headBy, short}
-use Rattle.families.proofs.HeadTaken.{text-short, head-taken}
+use Rattle.families.proofs.PopupTaken.{text-short, head-taken}
 use Rattle.codec.specs.declared.reader.FlagRead.{FlagRead}
 use Rattle.codec.specs.declared.reader.NumberRead.{NumberRead}
 use Rattle.codec.specs.declared.reader.TextRead.{TextRead}
