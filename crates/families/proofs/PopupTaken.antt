@@ -1,5 +1,6 @@
--- The items of a popup's head, and of a selection, taken in a row: the places that follow from the texts' lengths are where they stand. Assumes nothing.
+-- The items of a popup's head, of a selection and possible values, taken in a row: the places that follow from the texts' lengths are where they stand. Assumes nothing.
 use Prim.Native.Nat.{ℕ, _+_, _-_, _<_, _≤_}
+use mathlib.Core.Bool.{true}
 use mathlib.Core.List.{List, [], _∷_, _++_}
 use mathlib.Core.Path.{_≡_, refl, ap, sym, subst, _∙_}
 use native.Mathlib.Omega.{arith}
@@ -21,12 +22,15 @@ use Rattle.codec.specs.Refusals.{refusalNumber}
 use Rattle.codec.specs.declared.refusal.Refusal.{Refusal}
 use Rattle.families.specs.Sheets.{textItem}
 use Rattle.families.specs.Popup.{headItems, selectionItems, moreItems, additionalOf}
-use Rattle.families.specs.Places.{toldHead, headIn, headBy, short, fourAt, selectedBy, toldSelected, selectedIn, moreBy, MoreIn}
+use Rattle.families.specs.Places.{toldHead, headIn, headBy, short, fourAt, selectedBy, toldSelected, selectedIn, moreBy, MoreIn, valuesOf, ValuesTaken}
 use Rattle.families.specs.declared.screen.ScreenAdditionalData.the-variants.{Selection}
 use Rattle.families.specs.declared.popup.Selected.{Selected}
 use Rattle.families.specs.declared.popup.SelectedRead.{SelectedRead}
 use Rattle.families.specs.declared.popup.SelectedRead.the-variants.{Got as GotSelected, Refused as RefusedSelected}
 use Rattle.families.specs.declared.popup.More.{More}
+use Rattle.families.specs.declared.popup.Values.{Values}
+use Rattle.families.specs.declared.popup.ValuesRead.{ValuesRead}
+use Rattle.families.specs.declared.popup.ValuesRead.the-variants.{Got as GotValues, Refused as RefusedValues}
 use Rattle.families.proofs.PlaceLaws.{kind-selection, TextGot, text-got, byte-got, flag-got, head-got}
 
 pub text-short : (s : List ℕ) (r : TextRead) → (toldText s 0 r ≡ readItem (text 0 51) s) × textIn s 0 r → short r
@@ -125,3 +129,22 @@ selection-not s at k r h z e g = subst (Took (drop at s)) e g .0 ∙ label-read 
 -- the part of some bytes from a place on
 pub part-is : (s : List ℕ) (at : ℕ) → take (length s - at) (drop at s) ≡ drop at s
 part-is s at = let l = length-drop at s in take-all (length s - at) (drop at s) (omega arith)
+
+-- ---- possible values, at a place of some bytes
+pub values-taken : (s : List ℕ) (at : ℕ) (v : Values) (r : ValuesRead) → r ≡ GotValues v → ValuesTaken (drop at s) r → TextGot s at (v .text .len) (at + v .next)
+values-taken s at v r e (GotText n next, (f, (g, h))) =
+    let d : GotValues v ≡ valuesOf (GotText n next) = sym e ∙ f in
+    let w : v ≡ record { present = true; text = record { at = 0; len = n }; next = next } = cc in
+    let l = length-drop at s in
+    subst (λ (u : Values). TextGot s at (u .text .len) (at + u .next)) (sym w) (text-got s at n (at + next) (GotText n (at + next)) refl (g, (omega (arith, l, h .0), omega (arith, h .1))))
+values-taken s at v r e (RefusedText k, (f, (g, h))) = let d : GotValues v ≡ RefusedValues k = sym e ∙ f in let z : _≡_ {A = ℕ} 0 1 = cc in absurd (omega arith)
+
+pub values-fit : (s : List ℕ) (at : ℕ) (v : Values) (r : ValuesRead) → r ≡ GotValues v → ValuesTaken (drop at s) r → at + v .next ≤ length s
+values-fit s at v r e t = let x = values-taken s at v r e t in omega (arith, x .1 .1 .0, x .1 .1 .1 .0)
+
+pub values-refused : (s : List ℕ) (at : ℕ) (k : Refusal) (r : ValuesRead) → r ≡ RefusedValues k → ValuesTaken (drop at s) r → readItem textItem (drop at s) ≡ refused (refusalNumber k) 0
+values-refused s at k r e (RefusedText j, (f, (g, h))) =
+    let d : RefusedValues k ≡ RefusedValues j = sym e ∙ f in
+    let w : k ≡ j = cc in
+    sym g ∙ ap (λ (i : Refusal). refused (refusalNumber i) 0) (sym w)
+values-refused s at k r e (GotText n next, (f, (g, h))) = let d : RefusedValues k ≡ valuesOf (GotText n next) = sym e ∙ f in let z : _≡_ {A = ℕ} 0 1 = cc in absurd (omega arith)

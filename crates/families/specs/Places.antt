@@ -9,7 +9,9 @@ use lib.Dec.{leb}
 use Rattle.codec.specs.Pick.{pick}
 use Rattle.codec.specs.Sheet.{Answer, got, refused}
 use Rattle.codec.specs.Refusals.{refusalNumber, outcomeNumber}
-use Rattle.codec.specs.Told.{bit}
+use Rattle.codec.specs.Told.{bit, toldText, textIn}
+use Rattle.codec.specs.Reading.{readItem}
+use Rattle.families.specs.Sheets.{textItem}
 use Rattle.codec.specs.declared.reader.NumberRead.{NumberRead}
 use Rattle.codec.specs.declared.reader.NumberRead.the-variants.{Got as GotNumber, Refused as RefusedNumber}
 use Rattle.codec.specs.declared.reader.FlagRead.{FlagRead}
@@ -135,6 +137,14 @@ moreIn s at (RefusedMore r) = Unit {0}
 abbrev pub valuesBy : Bool → List ℕ → Values → List (List ℕ)
 valuesBy true s v = spanned s (v .text) ∷ []
 valuesBy false s v = []
+
+-- taken from the front: as the text that is read there
+abbrev pub valuesOf : TextRead → ValuesRead
+valuesOf (GotText n next) = GotValues (record { present = true; text = record { at = 0; len = n }; next = next })
+valuesOf (RefusedText r) = RefusedValues r
+
+abbrev pub ValuesTaken : List ℕ → ValuesRead → Type 0
+ValuesTaken s r = (x : TextRead) × ((r ≡ valuesOf x) × ((toldText s 0 x ≡ readItem textItem s) × textIn s 0 x))
 
 abbrev pub toldValues : List ℕ → ValuesRead → Answer (List (List ℕ))
 toldValues s (GotValues v) = got (valuesBy (v .present) s v)

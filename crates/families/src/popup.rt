@@ -7,10 +7,9 @@ ghost use Rattle.codec.specs.Reading.{readItems};
 ghost use Rattle.codec.specs.Told.{atMost};
 ghost use Rattle.families.specs.Sheets.{textItem};
 ghost use Rattle.families.specs.Popup.{headItems, selectionItems, moreItems, valuesItems, additionalOf, remains, readPopup};
-ghost use Rattle.families.specs.Places.{short, headBy, noMore, toldHead, headIn, selectedBy, toldSelected, selectedIn, toldMore, moreIn, toldValues, valuesIn, toldPlaces, placesIn};
+ghost use Rattle.families.specs.Places.{short, headBy, noMore, toldHead, headIn, selectedBy, toldSelected, selectedIn, toldMore, moreIn, valuesOf, ValuesTaken, toldValues, valuesIn, toldPlaces, placesIn};
 use crate::screen::ScreenAdditionalData;
 use codec::reader::FlagRead;
-use codec::reader::MAX_COMMAND_STRING_LEN;
 use codec::reader::NumberRead;
 use codec::reader::Reader;
 use codec::reader::TextRead;
@@ -242,6 +241,28 @@ fn read_more(s: &[u8], at: usize) -> MoreRead
     read_selection(s, at)
 }
 
+fn values_of(text: TextRead) -> ValuesRead
+    ensures { λ r. ⌜ r ≡ valuesOf text ⌝ }
+{
+    match text {
+        TextRead::Got { len: n, next: q } => ValuesRead::Got(Values {
+            present: true,
+            text: Span { at: 0, len: n },
+            next: q,
+        }),
+        TextRead::Refused(r) => ValuesRead::Refused(r),
+    }
+}
+
+// "possible values (text)"
+fn take_values(rest: &[u8]) -> ValuesRead
+    ensures { λ r. ⌜ ValuesTaken (now (rest .entry)) r ⌝ }
+{
+    let mut input = Reader::new(rest);
+    let text = input.string();
+    values_of(text)
+}
+
 fn read_values(s: &[u8], at: usize) -> ValuesRead
     requires { ⌜ at ≤ length (now s) ⌝ }
     ensures { λ r. ⌜ (toldValues (now (s .entry)) r ≡ readItems (valuesItems (remains (drop at (now (s .entry))))) (now (s .entry)) at) × valuesIn (now (s .entry)) at r ⌝ }
@@ -253,13 +274,19 @@ fn read_values(s: &[u8], at: usize) -> ValuesRead
             next: at,
         });
     }
-    match codec::reader::read_text(s, at, MAX_COMMAND_STRING_LEN) {
-        TextRead::Got { len: n, next: q } => ValuesRead::Got(Values {
-            present: true,
-            text: Span { at: at, len: n },
-            next: q,
-        }),
-        TextRead::Refused(r) => ValuesRead::Refused(r),
+    match take_values(&s[at..]) {
+        ValuesRead::Got(v) => {
+            let text = v.text;
+            ValuesRead::Got(Values {
+                present: true,
+                text: Span {
+                    at: at,
+                    len: text.len,
+                },
+                next: at + v.next,
+            })
+        }
+        ValuesRead::Refused(r) => ValuesRead::Refused(r),
     }
 }
 

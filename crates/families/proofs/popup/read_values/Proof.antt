@@ -1,6 +1,9 @@
--- Possible values are told as they are read, if bytes remain. Assumes nothing.
+-- Possible values are told as they are taken, if bytes remain. Assumes nothing.
+use native.Mathlib.Omega.{arith}
+use Rattle.codec.specs.Refusals.{refusalNumber}
 use denote.Ref.{now}
-use Rattle.families.proofs.PlaceLaws.{text-got, text-not, values-none, values-got, values-not}
+use Rattle.families.proofs.PlaceLaws.{values-none, values-got, values-not}
+use Rattle.families.proofs.PopupTaken.{part-is, values-taken, values-fit, values-refused}
 use borrow.Author.Needs.{needs}
 use Rattle.families.proofs.popup.read_values.Statement.{statement}
 use Rattle.families.proofs.popup.read_values.Tie as tie
@@ -8,21 +11,54 @@ use Rattle.families.proofs.popup.read_values.Tie as tie
 returns : tie.Need-returns
 returns c = values-none (now (c .before .before .args .s)) (c .before .before .args .at) (c .if1 .taken) (c .before .before .pre)
 
-read-text-requires : tie.Need-read-text-requires
-read-text-requires c κs = search needs
+sub-take-values : tie.Need-sub-take-values
+sub-take-values c = search needs
 
-enum-known-n : tie.Need-enum-known-n
-enum-known-n c = search needs
+part-take-values-start : tie.Need-part-take-values-start
+part-take-values-start c = search needs
+
+part-take-values-end : tie.Need-part-take-values-end
+part-take-values-end c = search needs
+
+take-values-requires : tie.Need-take-values-requires
+take-values-requires c κs = search needs
+
+enum-known-v : tie.Need-enum-known-v
+enum-known-v c = search needs
+
+add-t16 : tie.Need-add-t16
+add-t16 c =
+    let taken = c .before .before .before .before .before in
+    let start = taken .before .before .before .before in
+    let l = values-fit (now (start .args .s)) (start .args .at) _ _ (c .before .before .before .v .given .1) (rw (part-is (now (start .args .s)) (start .args .at)) at (taken .take-values .ensures)) in
+    omega (arith, l)
 
 enum-known-r : tie.Need-enum-known-r
 enum-known-r c = search needs
 
 returns-2 : tie.Need-returns-2
-returns-2 c = values-got (now (c .before .before .before .before .before .before .args .s)) (c .before .before .before .before .before .before .args .at) _ _ (text-got (now (c .before .before .before .before .before .before .args .s)) (c .before .before .before .before .before .before .args .at) _ _ _ (c .before .n .given .1) (c .before .before .before .read-text .ensures))
+returns-2 c =
+    let taken = c .before .before .before .before .before in
+    let start = taken .before .before .before .before in
+    values-got (now (start .args .s)) (start .args .at) _ _ (values-taken (now (start .args .s)) (start .args .at) _ _ (c .before .before .before .v .given .1) (rw (part-is (now (start .args .s)) (start .args .at)) at (taken .take-values .ensures)))
 
 returns-3 : tie.Need-returns-3
-returns-3 c = (values-not (now (c .before .before .before .before .before .before .args .s)) (c .before .before .before .before .before .before .args .at) _ _ (c .before .before .before .before .if1 .left) (text-not (now (c .before .before .before .before .before .before .args .s)) (c .before .before .before .before .before .before .args .at) _ _ (c .before .r .given .1) (c .before .before .before .read-text .ensures .0)), tt)
+returns-3 c =
+    let taken = c .before .before .before in
+    let start = taken .before .before .before .before in
+    (values-not (now (start .args .s)) (start .args .at) _ _ (taken .before .before .if1 .left) (values-refused (now (start .args .s)) (start .args .at) _ _ (c .before .r .given .1) (rw (part-is (now (start .args .s)) (start .args .at)) at (taken .take-values .ensures))), tt)
 
 pub read-values-spec : {M : Type 1} → statement M
 read-values-spec =
-    tie.close (tie.spec returns read-text-requires enum-known-n enum-known-r returns-2 returns-3)
+    tie.close
+    (tie.spec
+    returns
+    sub-take-values
+    part-take-values-start
+    part-take-values-end
+    take-values-requires
+    enum-known-v
+    add-t16
+    enum-known-r
+    returns-2
+    returns-3)
