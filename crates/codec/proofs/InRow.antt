@@ -10,7 +10,7 @@ use lib.ListN.{drop}
 use lib.Seq.{drop-drop}
 use lib.Dec.{eqb}
 use Rattle.codec.specs.Pick.{pick}
-use Rattle.codec.specs.Sheet.{Item, Row, row, Said, said, Answer, got, refused, andThen, byte, sizeOf, first}
+use Rattle.codec.specs.Sheet.{Item, Row, row, said, Answer, got, refused, andThen, byte, sizeOf, first}
 use Rattle.codec.specs.Reading.{readItem, readItems, readRow, readBody}
 use Rattle.codec.specs.Taking.{behindItem, Takes, inTurn, readBehind}
 

@@ -3,7 +3,7 @@
 --     taking           one item is taken: the reader's address goes to a local of its own, the method is called, its answer lands in its local. The rest of the context is Δ, with room for both at the places i and j
 --     functionN, N-meets   the function's MIR, with N items, and that it meets its contract.      rest: one item, and JUDGE is handed the bytes still to come too
 -- Assumes `Given`, which whoever walks has.
-use mathlib.Core.Path.{_≡_, refl, sym, subst}
+use mathlib.Core.Path.{_≡_, refl, subst}
 use Prim.Native.Nat.{ℕ, suc}
 use mathlib.Core.List.{List, [], _∷_}
 use lib.ListN.{length}
@@ -35,7 +35,7 @@ use denote.Triple.Call.{calls-at}
 use denote.Triple.Clauses.{Ended, Clauses, ensured, lasts, closing}
 use denote.Triple.Entry.{onEntry}
 use denote.Triple.Spec.{Meets, tripleOf}
-use denote.Triple.Walked.{says, Stays, stay-none-slice, walkOf, goes-none-slice, Walks, ends-at, walked, walk-meets}
+use denote.Triple.Walked.{says, Stays, stay-none-slice, walkOf, goes-none-slice, ends-at, walked, walk-meets}
 use denote.Exit.{yes}
 use Rattle.codec.specs.declared.reader.Reader.{Reader}
 use Rattle.codec.proofs.Method.{One, bytes, sliceᵉ, readerName, first-ended, first-says, MethodC}

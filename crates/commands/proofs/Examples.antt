@@ -6,7 +6,7 @@ use mathlib.Core.List.{List, [], _∷_, _++_, map}
 use mathlib.Core.Path.{_≡_, refl, ap, _∙_}
 use lib.ListN.{length, replicate}
 use Rattle.crc.specs.Polynomial.{remainder}
-use Rattle.crc.specs.Check.{checkOf, typedCheck, payloadCheck}
+use Rattle.crc.specs.Check.{checkOf, typedCheck}
 use Rattle.codec.specs.Sheet.{Answer, got, refused, andThen}
 use Rattle.codec.specs.Reading.{readItem}
 use Rattle.codec.specs.Writing.{counted}

@@ -13,20 +13,19 @@ use Rattle.codec.specs.Refusals.{refusalNumber}
 use Rattle.codec.specs.Told.{bit, toldNumber, atMost, toldFlag, toldText, textIn}
 use Rattle.codec.specs.declared.refusal.Refusal.{Refusal}
 use Rattle.codec.specs.declared.reader.NumberRead.{NumberRead}
-use Rattle.codec.specs.declared.reader.NumberRead.the-variants.{Got as GotNumber, Refused as RefusedNumber}
+use Rattle.codec.specs.declared.reader.NumberRead.the-variants.{Got as GotNumber}
 use Rattle.codec.specs.declared.reader.FlagRead.{FlagRead}
-use Rattle.codec.specs.declared.reader.FlagRead.the-variants.{Got as GotFlag, Refused as RefusedFlag}
+use Rattle.codec.specs.declared.reader.FlagRead.the-variants.{Got as GotFlag}
 use Rattle.codec.specs.declared.reader.TextRead.{TextRead}
-use Rattle.codec.specs.declared.reader.TextRead.the-variants.{Got as GotText, Refused as RefusedText}
+use Rattle.codec.specs.declared.reader.TextRead.the-variants.{Got as GotText}
 use Rattle.codec.proofs.Texts.{after-text}
 use Rattle.codec.proofs.Bounds.{empty-text, packed-there}
 use Rattle.codec.proofs.TextRange.{text-most}
-use Rattle.codec.proofs.ReadJoin.{read-join}
 use Rattle.codec.proofs.Joins.{end-is}
 use Rattle.families.specs.declared.screen.ScreenAdditionalData.{ScreenAdditionalData}
 use Rattle.families.specs.declared.screen.ScreenAdditionalData.the-variants.{Absent, Empty, Selection}
 use Rattle.families.specs.Sheets.{textItem}
-use Rattle.families.specs.Popup.{headItems, selectionItems, moreItems, valuesItems, popupItems, popup, additionalOf, remains, readRest, readMore, readPopup, writePopup}
+use Rattle.families.specs.Popup.{headItems, moreItems, valuesItems, popupItems, popup, additionalOf, remains, readRest, readMore, readPopup, writePopup}
 use Rattle.families.specs.Places.{none, spanned, SpanIn, headAt, HeadIn, toldHead, headIn, moreBy, noMore, MoreIs, MoreIn, toldMore, moreIn, valuesBy, ValuesIs, ValuesIn, toldValues, valuesIn, popupAt, PlacesIn}
 use Rattle.families.specs.declared.popup.Span.{Span}
 use Rattle.families.specs.declared.popup.Head.{Head}
@@ -66,9 +65,6 @@ text-got s at n next r e h =
     let b : (at + n < length s) × (next ≡ at + (n + 1)) = rw e at (h .1) in
     (sym a, (after-text s at n next b, (b .1, (b .0, text-most 51 s at n (b .0) a))))
 
-pub text-not : (s : List ℕ) (at : ℕ) (r : TextRead) (k : Refusal) → r ≡ RefusedText k → toldText s at r ≡ readItem textItem (drop at s) → readItem textItem (drop at s) ≡ refused (refusalNumber k) 0
-text-not s at r k e h = sym (rw e at h)
-
 abbrev pub ByteGot : List ℕ → ℕ → ℕ → Type 0
 ByteGot s at n = (readItem byte (drop at s) ≡ got (n ∷ [])) × ((n ≤ 255) × (at + 1 ≤ length s))
 
@@ -78,9 +74,6 @@ byte-got s at n r e h =
     let b : n ≤ 255 = rw e at (h .1) in
     (a, (b, packed-there 1 (field 8 0 255 ∷ []) s at (n ∷ []) (omega arith) a))
 
-pub byte-not : (s : List ℕ) (at : ℕ) (r : NumberRead) (k : Refusal) → r ≡ RefusedNumber k → toldNumber r ≡ readItem byte (drop at s) → readItem byte (drop at s) ≡ refused (refusalNumber k) 0
-byte-not s at r k e h = sym (rw e at h)
-
 abbrev pub FlagGot : List ℕ → ℕ → Bool → Type 0
 FlagGot s at b = (readItem flag (drop at s) ≡ got (bit b ∷ [])) × (at + 1 ≤ length s)
 
@@ -88,9 +81,6 @@ pub flag-got : (s : List ℕ) (at : ℕ) (b : Bool) (r : FlagRead) → r ≡ Got
 flag-got s at b r e h =
     let a : readItem flag (drop at s) ≡ got (bit b ∷ []) = sym (rw e at h) in
     (a, packed-there 1 (field 8 0 1 ∷ []) s at (bit b ∷ []) (omega arith) a)
-
-pub flag-not : (s : List ℕ) (at : ℕ) (r : FlagRead) (k : Refusal) → r ≡ RefusedFlag k → toldFlag r ≡ readItem flag (drop at s) → readItem flag (drop at s) ≡ refused (refusalNumber k) 0
-flag-not s at r k e h = sym (rw e at h)
 
 -- ---- the head
 abbrev pub headOf : ℕ → ℕ → ℕ → ℕ → ℕ → ℕ → Bool → Head

@@ -9,13 +9,13 @@ use lib.Seq.{drop-drop}
 use lib.Dec.{eqb}
 use Rattle.codec.specs.Pick.{pick}
 use Rattle.codec.specs.Sheet.{Item, Answer, got, refused, andThen, Said, byte, sizeOf, first}
-use Rattle.codec.specs.Reading.{readItem, readItems, endOf, readRow, readBody}
-use Rattle.codec.specs.Taking.{Takes, behindItem, readBehind}
+use Rattle.codec.specs.Reading.{readItem, readItems, endOf, readRow}
+use Rattle.codec.specs.Taking.{Takes, readBehind}
 use Rattle.codec.proofs.InRow.{read-behind, body-taken}
 use Rattle.families.specs.declared.screen.ScreenAdditionalData.{ScreenAdditionalData}
 use Rattle.families.specs.Sheets.{screenRows}
 use Rattle.families.specs.Popup.{headItems, moreItems, valuesItems, Popup, popup, additionalOf, remains, readRest, readMore, readPopup, fitted}
-use Rattle.families.specs.Screen.{ScreenSaid, started, returned, readScreen, screenBehind}
+use Rattle.families.specs.Screen.{started, returned, readScreen, screenBehind}
 
 then-same : {A B : Type 0} (a : Answer A) (f g : A → Answer B) → ((x : A) → f x ≡ g x) → andThen a f ≡ andThen a g
 then-same (got x) f g h = h x

@@ -5,15 +5,14 @@ use mathlib.Core.List.{List, [], _∷_, _++_}
 use mathlib.Core.Path.{_≡_, refl, ap, sym, _∙_}
 use native.Mathlib.Omega.{arith}
 use native.Mathlib.Numerals.{add-one}
-use lib.ListN.{length, take, drop, length-drop, drop-of-length-le}
+use lib.ListN.{length, take, drop, drop-of-length-le}
 use lib.Seq.{length-take-le, take-all}
 use lib.Dec.{leb, eqb}
 use borrow.Author.Tests.{le-leb, lt-leb, eq-eqb, ne-eqb}
 use Rattle.crc.specs.Check.{Bytes}
 use Rattle.codec.specs.Pick.{pick}
-use Rattle.codec.specs.Sheet.{Answer, got, refused, andThen, said, byte, flag}
+use Rattle.codec.specs.Sheet.{Answer, got, refused, andThen, said, byte}
 use Rattle.codec.specs.Digits.{bytesOf}
-use Rattle.codec.specs.Reading.{readItem}
 use Rattle.codec.specs.Writing.{stopRoom, putAt, writeBody}
 use Rattle.codec.specs.Refusals.{refusalNumber, outcomeNumber}
 use Rattle.codec.specs.Told.{bit, Writes}
@@ -27,7 +26,7 @@ use Rattle.families.specs.Sheets.{screenRows}
 use Rattle.families.specs.Text.{zeros, padded, textOf}
 use Rattle.families.specs.Popup.{Popup, popup, readPopup, writePopup, fitted}
 use Rattle.families.specs.Fields.{popupOf, fieldsOf, whole, inspect, isGot, FieldsIs}
-use Rattle.families.specs.Screen.{ScreenSaid, started, returned, readScreen, ScreenIs, startedBy}
+use Rattle.families.specs.Screen.{ScreenSaid, started, ScreenIs, startedBy}
 use Rattle.families.specs.Places.{popupAt, PlacesIn, toldPlaces, placesIn, StoredIs, spanned, headAt, moreBy, valuesBy, MoreIs, ValuesIs}
 use Rattle.families.specs.declared.text.CommandString.{CommandString}
 use Rattle.families.specs.declared.screen.ScreenAdditionalData.{ScreenAdditionalData}
@@ -42,7 +41,7 @@ use Rattle.families.specs.declared.popup.Values.{Values}
 use Rattle.families.specs.declared.popup.Places.{Places}
 use Rattle.families.specs.declared.popup.PopupRead.{PopupRead}
 use Rattle.families.specs.declared.popup.PopupRead.the-variants.{Got, Refused}
-use Rattle.families.proofs.PlaceLaws.{ByteGot, FlagGot, places-end}
+use Rattle.families.proofs.PlaceLaws.{places-end}
 use Rattle.families.proofs.PopupLaws.{popup-forth}
 
 -- ---- what a parse says

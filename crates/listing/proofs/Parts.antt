@@ -430,7 +430,3 @@ module _ (s : Listing) (l : Line) (x : Written) (t t' : List ℕ) (h : closing s
       let c : textOfClosing s ≡ textOf l = ap (λ (a : Answer (List Line)). textOfLines (valueIn [] a)) h ∙ append-nil (textOf l) in
       let j : length t' ≡ length t = ap length i ∙ length-sets t 0 (textOf l) in
       (omega (arith, closing-longest s l h), ap (λ (y : List ℕ). take n y) i ∙ take-put t (textOf l) 0 n (omega arith) (omega (arith, closing-longest s l h)) ∙ sym c)
-
--- a state beyond its limits has no closing line
-pub closing-none : (s : Listing) (t : List ℕ) (n p : ℕ) → closing s ≡ refused n p → (0 ≤ length t) × (take 0 t ≡ textOfClosing s)
-closing-none s t n p h = (omega arith, sym (ap (λ (a : Answer (List Line)). textOfLines (valueIn [] a)) h))

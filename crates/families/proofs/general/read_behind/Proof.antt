@@ -1,5 +1,4 @@
 -- `general::read_behind` meets its contract. Assumes nothing.
-use native.Mathlib.Omega.{arith}
 use borrow.Author.Tests.{ne-eqb}
 use borrow.Author.Needs.{needs}
 use Rattle.families.proofs.general.read_behind.Statement.{statement}

@@ -1,6 +1,5 @@
 -- Possible values are told as they are taken, if bytes remain. Assumes nothing.
 use native.Mathlib.Omega.{arith}
-use Rattle.codec.specs.Refusals.{refusalNumber}
 use denote.Ref.{now}
 use Rattle.families.proofs.PlaceLaws.{values-none, values-got, values-not}
 use Rattle.families.proofs.PopupTaken.{part-is, values-taken, values-fit, values-refused}

@@ -1,5 +1,5 @@
 -- `popup::take_selection` meets its contract, by the one walk of `codec`'s `Straight.antt`. Assumes nothing.
-use mathlib.Core.Path.{_≡_, ap, _∙_}
+use mathlib.Core.Path.{_≡_}
 use Prim.Native.Nat.{ℕ}
 use mathlib.Core.List.{List, [], _∷_}
 use base.Logic.{emp}
