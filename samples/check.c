@@ -20,6 +20,10 @@ int main(int argc, char **argv)
     const uint8_t type = CRSF_FRAME_TYPE;
     const uint8_t typed = crsf_check(&type, 1, 0);
 
+    if (argc < 2) {
+        fputs("usage: check PAYLOAD ..\n", stderr);
+        return 2;
+    }
     for (int i = 1; i < argc; i++) {
         uint8_t payload[CRSF_MAX_PAYLOAD];
         size_t len = bytes_of(argv[i], payload);
