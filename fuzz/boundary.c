@@ -1,5 +1,6 @@
-/* boundary COUNT SEED guard|heap: calls every function of crsf.h with slices of every length up to 300, then COUNT times with
- * slices drawn at random: any bytes, valid ones, and ones near them. It judges each answer and every byte that was lent.
+/* boundary COUNT SEED guard|heap FIRST STEP: calls every function of crsf.h with slices of every length up to 300, or of each
+ * STEP-th from FIRST on, then COUNT times with slices drawn at random: any bytes, valid ones, and ones near them. It judges each
+ * answer and every byte that was lent.
  *
  * guard: each slice ends directly before a page that can't be touched, in a second turn it starts directly behind one, and const
  * slices lie in pages that can't be written: an access outside is a signal. heap: each slice is allocated at its length, for
@@ -58,6 +59,7 @@ static struct {
 } call;
 
 static enum { HEAP, ENDS, STARTS } turn;
+static size_t first_length, length_step;
 static unsigned long long seed, calls, answers[FUNCTIONS + 1][NUMBERS]; /* the last row: the answer bytes of lists */
 
 static _Noreturn void fail(const char *what, ...)
@@ -289,8 +291,8 @@ static uint32_t spoiled(const struct slice *s, uint32_t answer)
     IF(5, POPUP_FIELDS, number != 0 && s[1].len > 0) s[1].at[0] ^= 1;
     IF(6, READ, number == 0 && s[1].len > CRSF_RECORD_SIZE) s[1].at[CRSF_RECORD_SIZE] ^= 1;
     IF(7, EDIT, number == CRSF_NO_SUCH_FIELD) answer = 9;
-    IF(8, WRITE, number == 0 && CRSF_COUNT(answer) < s[1].len) answer += 1 << 8;
-    IF(9, EDIT, number == 0) for (size_t i = 0; i < 6 && i < s[0].len; i++) s[0].at[i] = (uint8_t)~s[0].bytes[i];
+    IF(8, WRITE, number == 0 && CRSF_COUNT(answer) < s[1].len && CRSF_COUNT(answer) < CRSF_MAX_PAYLOAD) answer += 1 << 8;
+    IF(9, EDIT, number == 0 && s[0].len >= 6) for (size_t i = 0; i < s[0].len; i++) s[0].at[i] = s[0].bytes[i] ^ (i < 6);
     IF(10, EDIT_LIST, number == CRSF_BUFFER_OVERFLOW) answer = CRSF_INVALID_PAYLOAD_LENGTH;
     IF(11, WRITE, number == 0 && s[1].at[s[1].len - 1] == 7) seen = 7;
     IF(12, TEXT, number == 0) (void)VALGRIND_MAKE_MEM_UNDEFINED(s[1].at + CRSF_TEXT_SIZE - 1, 1);
@@ -313,7 +315,7 @@ static void make_call(void)
 static void every_length(int function, int i, int j)
 {
     const size_t most = turn == HEAP ? 0 : i == j ? KINDS - 1 : LONGEST;
-    for (size_t a = 0; a <= LONGEST; a++)
+    for (size_t a = first_length; a <= LONGEST; a += length_step)
         for (size_t b = 0; b <= most; b++) {
             draw(function);
             call.slice[j].len = b;
@@ -354,10 +356,11 @@ static bool report(const char *name, const char *numbers, const unsigned long lo
 
 int main(int argc, char **argv)
 {
-    if (argc != 4 || (strcmp(argv[3], "guard") != 0 && strcmp(argv[3], "heap") != 0))
-        return fputs("boundary COUNT SEED guard|heap\n", stderr), 2;
+    if (argc != 6 || (strcmp(argv[3], "guard") != 0 && strcmp(argv[3], "heap") != 0) || strtoull(argv[5], NULL, 10) == 0)
+        return fputs("boundary COUNT SEED guard|heap FIRST STEP\n", stderr), 2;
     const unsigned long long count = strtoull(argv[1], NULL, 10);
     state = seed = strtoull(argv[2], NULL, 10);
+    first_length = strtoull(argv[4], NULL, 10), length_step = strtoull(argv[5], NULL, 10);
 
     const struct sigaction action = {.sa_sigaction = on_signal, .sa_flags = SA_SIGINFO};
     const int signals[] = {SIGSEGV, SIGBUS, SIGILL, SIGFPE, SIGTRAP, SIGABRT, SIGTERM};
