@@ -1,5 +1,6 @@
 //! Copies uf-crsf's own files, byte for byte, beside the two that stand in for its lib.rs and packets/mod.rs.
 use std::path::{Path, PathBuf};
+use std::process::exit;
 use std::{env, fs};
 
 /// Everything that the direct commands need; nothing of it is changed.
@@ -23,10 +24,9 @@ const STAND_INS: [(&str, &str); 2] = [
 fn copy(from: &Path, to: &Path) {
     println!("cargo:rerun-if-changed={}", from.display());
     if let Err(error) = fs::copy(from, to) {
-        panic!(
-            "{}: {error}. UF_CRSF_SRC names the folder that holds uf-crsf's src/.",
-            from.display()
-        );
+        eprintln!("{}: {error}.", from.display());
+        eprintln!("Set UF_CRSF_SRC to the folder that holds uf-crsf's src/.");
+        exit(1);
     }
 }
 
