@@ -1,5 +1,6 @@
 //! The crate's public numbers are those of include/crsf.h. What lies in images is held to it beside the code (src/image/numbers.rs).
 mod header;
+mod laid;
 mod payloads;
 
 use crsf::boundary::{
@@ -9,6 +10,7 @@ use crsf::boundary::{
 use crsf::packets::{CrsfPacket, DirectCommands};
 use crsf::{edit_list, CrsfParsingError, Edit, Field};
 use header::Names;
+use laid::{record, Laid};
 use payloads::{payload, M1, M3, M3_EDITED};
 
 const REFUSALS: [(&str, CrsfParsingError); 8] = [
@@ -169,52 +171,6 @@ fn an_edit_lies_as_the_header_says() {
     assert_eq!(edit_list(&mut payload, &typed, &mut answers), Ok(()));
     assert_eq!((payload, answers), (M3_EDITED, [0, 7]));
     assert_eq!(size_of_val(&typed), size_of_val(&list));
-}
-
-/// An image put together by the header's places.
-struct Laid<const SIZE: usize> {
-    names: Names,
-    image: [u8; SIZE],
-}
-
-impl<const SIZE: usize> Laid<SIZE> {
-    fn new() -> Self {
-        Self {
-            names: header::all(),
-            image: [0; SIZE],
-        }
-    }
-
-    fn at(&self, name: &str) -> usize {
-        self.names[name] as usize
-    }
-
-    fn put(mut self, name: &str, bytes: &[u8]) -> Self {
-        let at = self.at(name);
-        self.image[at..at + bytes.len()].copy_from_slice(bytes);
-        self
-    }
-
-    /// A byte that has a name itself.
-    fn named(self, name: &str, byte: &str) -> Self {
-        let byte = self.at(byte) as u8;
-        self.put(name, &[byte])
-    }
-
-    fn text(self, name: &str, bytes: &[u8]) -> Self {
-        let mut text = [0; TEXT_SIZE];
-        assert_eq!(boundary::text(bytes, &mut text), 0);
-        self.put(name, &text)
-    }
-}
-
-/// The record from EA to C8.
-fn record(id: &str, sub_command: &str) -> Laid<RECORD_SIZE> {
-    Laid::new()
-        .put("RECORD_DESTINATION", &[0xC8])
-        .put("RECORD_SOURCE", &[0xEA])
-        .named("RECORD_ID", id)
-        .named("RECORD_SUB_COMMAND", sub_command)
 }
 
 /// A record is written as the payload, and read of it.
