@@ -194,7 +194,7 @@ fn a_popup_goes_into_a_record_as_the_header_says() {
         .named("POPUP_FIELDS_ADDITIONAL", "ADDITIONAL_SELECTION")
         .text("POPUP_FIELDS_LABEL", b"Power")
         .put("POPUP_FIELDS_VALUE", &[20])
-        .put("POPUP_FIELDS_MIN", &[0])
+        .put("POPUP_FIELDS_MIN", &[2])
         .put("POPUP_FIELDS_MAX", &[31])
         .put("POPUP_FIELDS_DEFAULT", &[10])
         .text("POPUP_FIELDS_UNIT", b"dBm")
@@ -204,7 +204,7 @@ fn a_popup_goes_into_a_record_as_the_header_says() {
     assert_eq!(boundary::popup(&fields.image, &mut popup), 0);
 
     let record = record("SCREEN", "SCREEN_POPUP_MESSAGE_START").put("RECORD_LENGTH", &popup);
-    let body = b"\x01Hi\0Yo\0\x1E\x01Power\0\x14\x00\x1F\x0AdBm\0Yes;No\0";
+    let body = b"\x01Hi\0Yo\0\x1E\x01Power\0\x14\x02\x1F\x0AdBm\0Yes;No\0";
     crosses(&record.image, &payload(0x22, body));
 
     let stored = &record.image[record.at("RECORD_LENGTH")..];
