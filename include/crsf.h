@@ -24,6 +24,7 @@
 extern "C" {
 #endif
 
+/* Of this interface; the Rust crate over it has the same. */
 #define CRSF_VERSION_MAJOR 0
 #define CRSF_VERSION_MINOR 1
 #define CRSF_VERSION_PATCH 0
@@ -38,8 +39,9 @@ extern "C" {
 #define CRSF_MUST_USE
 #endif
 
-/* The frame type, and the least and the largest length of a payload: destination, source, command id, body, check. The
- * check is that of the frame type, then of all the payload's bytes but the last, which holds it. */
+/* The frame type, and the least and the largest length of a payload: what such a frame holds between its type and its
+ * own check. It is destination, source, command id, body, check. This check is that of the frame type, then of all the
+ * payload's bytes but the last, which holds it. */
 #define CRSF_FRAME_TYPE 0x32u
 #define CRSF_MIN_PAYLOAD 4
 #define CRSF_MAX_PAYLOAD 60
@@ -50,8 +52,8 @@ extern "C" {
 #define CRSF_MAX_POPUP 55
 
 /* AN ANSWER is one number: 0 or a refusal in bits 0-7, a count of bytes in bits 8-15, a place in bits 16-31. Only
- * crsf_write counts, and only where it accepts: every other count is 0. The place is 0 so far. So an answer is
- * CRSF_ACCEPTED as a whole, or refused; that of crsf_write is taken apart first.
+ * crsf_write counts, and only where it accepts: every other count is 0. The place is 0 so far. So CRSF_NUMBER(answer)
+ * tells which refusal it is; and, but for crsf_write, an answer that is CRSF_ACCEPTED as a whole accepts.
  *
  * A refusal changes no byte that was lent. What a function refuses stands at the function, in the order in which it
  * looks: the first that holds is the answer. */
@@ -135,8 +137,8 @@ enum {
  * else; more keeps its bytes behind it.
  *
  * A popup goes into a record, and comes out of one, as it is: its image is the record's bytes from CRSF_RECORD_LENGTH
- * on. An ACK goes in two pieces: its first three bytes are the record's values, the others are the record's bytes from
- * CRSF_RECORD_LENGTH on, with zeros behind them.
+ * on. An ACK goes in, and comes out, in two pieces: its first three bytes are the record's values, the others are the
+ * record's bytes from CRSF_RECORD_LENGTH on, with zeros behind them.
  *
  *     memcpy(record + CRSF_RECORD_LENGTH, popup, CRSF_POPUP_SIZE);
  *
@@ -207,48 +209,48 @@ enum {
     CRSF_ADDITIONAL_SELECTION = 2
 };
 
-/* FIELDS that can be edited, and what commands have them. Numbers are 0 to 255 where no range is given. */
+/* FIELDS that can be edited, and what commands have them. Numbers are 0-255 where no range is given. */
 enum {
     CRSF_FIELD_DESTINATION = 1, /* every command */
     CRSF_FIELD_SOURCE = 2,      /* every command */
 
     CRSF_FIELD_BUTTONS = 10,
 
-    CRSF_FIELD_FREQUENCY = 20,   /* 5000 to 6000 */
-    CRSF_FIELD_PIT_MODE = 21,    /* 0 or 1 */
-    CRSF_FIELD_PIT_CONTROL = 22, /* 0 to 3 */
-    CRSF_FIELD_PIT_SWITCH = 23,  /* 0 to 15 */
+    CRSF_FIELD_FREQUENCY = 20,   /* 5000-6000 */
+    CRSF_FIELD_PIT_MODE = 21,    /* 0-1 */
+    CRSF_FIELD_PIT_CONTROL = 22, /* 0-3 */
+    CRSF_FIELD_PIT_SWITCH = 23,  /* 0-15 */
     CRSF_FIELD_POWER = 24,       /* both commands that set it */
 
-    CRSF_FIELD_TIME = 30,            /* 0 to 65535 */
-    CRSF_FIELD_HUE = 31,             /* 0 to 359; these three of the only or the start colour */
-    CRSF_FIELD_SATURATION = 32,      /* 0 to 100 */
-    CRSF_FIELD_VALUE = 33,           /* 0 to 100 */
-    CRSF_FIELD_STOP_HUE = 34,        /* 0 to 359; these three of the stop colour */
-    CRSF_FIELD_STOP_SATURATION = 35, /* 0 to 100 */
-    CRSF_FIELD_STOP_VALUE = 36,      /* 0 to 100 */
+    CRSF_FIELD_TIME = 30,            /* 0-65535 */
+    CRSF_FIELD_HUE = 31,             /* 0-359; these three of the only or the start colour */
+    CRSF_FIELD_SATURATION = 32,      /* 0-100 */
+    CRSF_FIELD_VALUE = 33,           /* 0-100 */
+    CRSF_FIELD_STOP_HUE = 34,        /* 0-359; these three of the stop colour */
+    CRSF_FIELD_STOP_SATURATION = 35, /* 0-100 */
+    CRSF_FIELD_STOP_VALUE = 36,      /* 0-100 */
 
     CRSF_FIELD_PORT = 40,     /* of the proposal and of its response */
     CRSF_FIELD_BAUD = 41,     /* any number */
-    CRSF_FIELD_ACCEPTED = 42, /* 0 or 1 */
+    CRSF_FIELD_ACCEPTED = 42, /* 0-1 */
 
     CRSF_FIELD_MODEL = 50, /* of the selection and of its reply */
 
     CRSF_FIELD_FRAME_TYPE = 60, /* both commands */
-    CRSF_FIELD_INTERVAL = 61,   /* 0 to 65535 */
+    CRSF_FIELD_INTERVAL = 61,   /* 0-65535 */
 
     CRSF_FIELD_TIMEOUT = 70,         /* every popup */
-    CRSF_FIELD_CLOSE = 71,           /* 0 or 1; every popup */
+    CRSF_FIELD_CLOSE = 71,           /* 0-1; every popup */
     CRSF_FIELD_SELECTION_VALUE = 72, /* popups with a selection, as the next three */
     CRSF_FIELD_SELECTION_MIN = 73,
     CRSF_FIELD_SELECTION_MAX = 74,
     CRSF_FIELD_SELECTION_DEFAULT = 75,
     CRSF_FIELD_RETURNED_VALUE = 76,
-    CRSF_FIELD_RESPONSE = 77, /* 0 or 1 */
+    CRSF_FIELD_RESPONSE = 77, /* 0-1 */
 
     CRSF_FIELD_ACK_COMMAND_ID = 80, /* what an ACK answers, not the payload's own id */
     CRSF_FIELD_ACK_SUB_COMMAND_ID = 81,
-    CRSF_FIELD_ACK_ACTION = 82 /* 0 or 1 */
+    CRSF_FIELD_ACK_ACTION = 82 /* 0-1 */
 };
 
 /* An edit in a list: u32 field, u32 number. crsf_put_edit puts one, CRSF_EDIT_SIZE bytes. */
@@ -267,7 +269,7 @@ static inline void crsf_put_edit(uint8_t *edit, uint32_t field, uint32_t number)
  * 3, less room than CRSF_RECORD_SIZE;
  * 1, a payload below CRSF_MIN_PAYLOAD or above CRSF_MAX_PAYLOAD bytes;
  * 2, another check than the payload's;
- * 4, command id 0x03 or 0x13; 2, any other id that is not above;
+ * 4, command id 0x03 or 0x13; 2, another id that is none of the command ids above;
  * then the sub-command, and value by value, a colour being one: 1, bytes of it are missing; 2, it is unknown or out of
  * range. A text that does not end in 0, or has more than CRSF_MAX_TEXT bytes, is 1. An ACK's information has to end in
  * 0 (1) before its action is judged (2).
