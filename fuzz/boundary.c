@@ -40,7 +40,7 @@ static const struct {
     [TEXT] = {"crsf_text", "0123", 2, {BYTES, ROOM}, CRSF_TEXT_SIZE},
     [ACK] = {"crsf_ack", "0123", 2, {BYTES, ROOM}, CRSF_ACK_SIZE},
     [POPUP] = {"crsf_popup", "01235", 2, {FIELDS, ROOM}, CRSF_POPUP_SIZE},
-    [POPUP_FIELDS] = {"crsf_popup_fields", "035", 2, {POPUP_IMAGE, ROOM}, CRSF_FIELDS_SIZE},
+    [POPUP_FIELDS] = {"crsf_popup_fields", "035", 2, {POPUP_IMAGE, ROOM}, CRSF_POPUP_FIELDS_SIZE},
     [READ] = {"crsf_read", "01234", 2, {PAYLOAD, ROOM}, CRSF_RECORD_SIZE},
     [WRITE] = {"crsf_write", "0235", 2, {RECORD, ROOM}, 0},
     [EDIT] = {"crsf_edit", "0124678", 1, {PAYLOAD_IN_PLACE}, 0},

@@ -100,23 +100,23 @@ static void put_text(uint8_t *image, uint32_t longest) { image[0] = (uint8_t)put
 /* Texts that are made, one by one; the popup may still have no room, or lack an item that another needs. */
 static void put_fields(uint8_t *image)
 {
-    static const uint8_t texts[] = {CRSF_FIELDS_HEADER, CRSF_FIELDS_INFO, CRSF_FIELDS_LABEL, CRSF_FIELDS_UNIT,
-                                    CRSF_FIELDS_POSSIBLE_VALUES};
-    const uint32_t longest = within(0, 51);
-    memset(image, 0, CRSF_FIELDS_SIZE);
+    static const uint8_t texts[] = {CRSF_POPUP_FIELDS_HEADER, CRSF_POPUP_FIELDS_INFO, CRSF_POPUP_FIELDS_LABEL,
+                                    CRSF_POPUP_FIELDS_UNIT, CRSF_POPUP_FIELDS_POSSIBLE_VALUES};
+    const uint32_t longest = within(0, CRSF_MAX_TEXT);
+    memset(image, 0, CRSF_POPUP_FIELDS_SIZE);
     for (size_t i = 0; i < sizeof texts; i++)
         put_text(image + texts[i], longest);
-    put(image + CRSF_FIELDS_TIMEOUT, 1, within(0, 255));
-    put(image + CRSF_FIELDS_CLOSE, 1, within(0, 1));
-    put(image + CRSF_FIELDS_ADDITIONAL, 1, within(CRSF_ADDITIONAL_ABSENT, CRSF_ADDITIONAL_SELECTION));
-    put(image + CRSF_FIELDS_VALUE, 4, (uint32_t)next()); /* and min, max, default */
-    put(image + CRSF_FIELDS_HAS_POSSIBLE_VALUES, 1, within(0, 1));
+    put(image + CRSF_POPUP_FIELDS_TIMEOUT, 1, within(0, 255));
+    put(image + CRSF_POPUP_FIELDS_CLOSE, 1, within(0, 1));
+    put(image + CRSF_POPUP_FIELDS_ADDITIONAL, 1, within(CRSF_ADDITIONAL_ABSENT, CRSF_ADDITIONAL_SELECTION));
+    put(image + CRSF_POPUP_FIELDS_VALUE, 4, (uint32_t)next()); /* and min, max, default */
+    put(image + CRSF_POPUP_FIELDS_HAS_POSSIBLE_VALUES, 1, within(0, 1));
 }
 
 /* Of the first fields drawn that make one. */
 static void put_popup(uint8_t *image)
 {
-    uint8_t fields[CRSF_FIELDS_SIZE];
+    uint8_t fields[CRSF_POPUP_FIELDS_SIZE];
     for (int tries = 0; tries < 1000; tries++) {
         put_fields(fields);
         if (crsf_popup(fields, sizeof fields, image, CRSF_POPUP_SIZE) == CRSF_ACCEPTED)
@@ -135,7 +135,7 @@ static void put_record(uint8_t *image)
     for (const char *value = kind->values; *value != '\0'; value++)
         at = put_value(at, *value);
     if (kind->id == CRSF_ACK)
-        put_text(image + CRSF_RECORD_LENGTH, 52);
+        put_text(image + CRSF_RECORD_LENGTH, CRSF_MAX_INFORMATION);
     if (kind->id == CRSF_SCREEN && kind->sub_command == CRSF_SCREEN_POPUP_MESSAGE_START)
         put_popup(image + CRSF_RECORD_LENGTH);
 }
@@ -178,8 +178,10 @@ static uint32_t number(void)
 static size_t put_edits(uint8_t *edits, uint8_t id)
 {
     const size_t len = CRSF_EDIT_SIZE * below(LONGEST / CRSF_EDIT_SIZE + 1);
-    for (size_t i = 0; i < len; i += CRSF_EDIT_SIZE)
-        put(put(edits + i, 4, field(id)), 4, number());
+    for (size_t i = 0; i < len; i += CRSF_EDIT_SIZE) {
+        const uint32_t which = field(id);
+        crsf_put_edit(edits + i, which, number());
+    }
     return len;
 }
 
@@ -189,7 +191,7 @@ static size_t put_edits(uint8_t *edits, uint8_t id)
 static size_t put_valid(enum content content, uint8_t *bytes, uint8_t id)
 {
     switch (content) {
-    case FIELDS: return put_fields(bytes), CRSF_FIELDS_SIZE;
+    case FIELDS: return put_fields(bytes), CRSF_POPUP_FIELDS_SIZE;
     case POPUP_IMAGE: return put_popup(bytes), CRSF_POPUP_SIZE;
     case RECORD: return put_record(bytes), CRSF_RECORD_SIZE;
     case PAYLOAD:

@@ -1,8 +1,19 @@
 /* CRSF direct commands (frame type 0x32): the functions of libcrsf.a, which `rt staticlib crsf` makes.
  *
- * A slice is a pointer and a length; a null pointer is fine where the length is 0. Any bytes and any length have an answer, and
- * nothing is asked of the caller but that the slices may be read, those that are not const written, and that a slice that is
- * written overlaps no other. Numbers of two or more bytes are big-endian, in payloads and in images. */
+ * To read a payload: crsf_read gives a record, which says the command by its id and sub-command, then its values.
+ * To send a command: fill a record, zeros first; crsf_write gives the payload.
+ * To send a popup: crsf_text for each of its texts, then crsf_popup, gives what goes into a record (IMAGES, below).
+ * To answer a command: crsf_ack gives what goes into a record.
+ * To change a number in a payload: crsf_edit; many of them: crsf_put_edit for each, then crsf_edit_list.
+ *
+ * A slice is a pointer and a length; a null pointer is fine where the length is 0. Any bytes and any length have an
+ * answer, and nothing is asked of the caller but that the slices may be read, those that are not const written, and
+ * that a slice that is written overlaps no other.
+ *
+ * Nothing is kept between calls and nothing is allocated: any thread may call any function at any time, on slices that
+ * no other thread writes meanwhile, nor reads where the function writes them.
+ *
+ * Numbers of two or more bytes are big-endian, in payloads and in images. */
 #ifndef CRSF_H
 #define CRSF_H
 
@@ -13,14 +24,39 @@
 extern "C" {
 #endif
 
-/* The frame type, and the least and the largest length of a payload: destination, source, command id, body, check. The check is
- * that of the frame type, then of all the payload's bytes but the last, which holds it. */
+/* Of this interface; the Rust crate over it has the same. */
+#define CRSF_VERSION_MAJOR 0
+#define CRSF_VERSION_MINOR 1
+#define CRSF_VERSION_PATCH 0
+#define CRSF_VERSION "0.1.0"
+
+/* Before each function: its answer is all that tells a refusal, so one that is not looked at is warned of. */
+#if (defined(__STDC_VERSION__) && __STDC_VERSION__ >= 202311L) || (defined(__cplusplus) && __cplusplus >= 201703L)
+#define CRSF_MUST_USE [[nodiscard]]
+#elif defined(__GNUC__)
+#define CRSF_MUST_USE __attribute__((warn_unused_result))
+#else
+#define CRSF_MUST_USE
+#endif
+
+/* The frame type, and the least and the largest length of a payload: what such a frame holds between its type and its
+ * own check. It is destination, source, command id, body, check. This check is that of the frame type, then of all the
+ * payload's bytes but the last, which holds it. */
 #define CRSF_FRAME_TYPE 0x32u
 #define CRSF_MIN_PAYLOAD 4
 #define CRSF_MAX_PAYLOAD 60
 
-/* AN ANSWER is one number: 0 or a refusal in bits 0-7, a count of bytes in bits 8-15, a place in bits 16-31 (0 so far). A refusal
- * changes no byte that was lent. */
+/* The largest length of a text, of an ACK's information, and of a popup. */
+#define CRSF_MAX_TEXT 51
+#define CRSF_MAX_INFORMATION 52
+#define CRSF_MAX_POPUP 55
+
+/* AN ANSWER is one number: 0 or a refusal in bits 0-7, a count of bytes in bits 8-15, a place in bits 16-31. Only
+ * crsf_write counts, and only where it accepts: every other count is 0. The place is 0 so far. So CRSF_NUMBER(answer)
+ * tells which refusal it is; and, but for crsf_write, an answer that is CRSF_ACCEPTED as a whole accepts.
+ *
+ * A refusal changes no byte that was lent. What a function refuses stands at the function, in the order in which it
+ * looks: the first that holds is the answer. */
 #define CRSF_NUMBER(answer) ((answer) & 0xFFu)
 #define CRSF_COUNT(answer) ((answer) >> 8 & 0xFFu)
 #define CRSF_PLACE(answer) ((answer) >> 16)
@@ -50,58 +86,75 @@ enum {
     CRSF_ACK = 0xFF
 };
 
-/* Sub-commands, and the values that stand in a record's image, with their widths in bytes. */
+/* Sub-commands, each with the values that stand in its record's image, one behind the other in this order. u8, u16 and
+ * u32 are 1, 2 and 4 bytes. What numbers a value takes comes behind its name, where it is not all that fit: reading and
+ * writing refuse others (2). A flag is 1 byte, 0 or 1: reading refuses others (2), and no record has them (5). */
 enum {
-    CRSF_FC_FORCE_DISARM = 0x01,
-    CRSF_FC_SCALE_CHANNEL = 0x02,
+    CRSF_FC_FORCE_DISARM = 0x01,  /* no values */
+    CRSF_FC_SCALE_CHANNEL = 0x02, /* no values */
 
-    CRSF_OSD_SEND_BUTTONS = 0x01, /* buttons 1 */
+    CRSF_OSD_SEND_BUTTONS = 0x01, /* u8 buttons */
 
-    CRSF_VTX_SET_FREQUENCY = 0x02,               /* frequency 2, in MHz */
-    CRSF_VTX_ENABLE_PIT_MODE_ON_POWER_UP = 0x04, /* mode 1 (0 or 1), control 1, switch 1 */
-    CRSF_VTX_POWER_UP_FROM_PIT_MODE = 0x05,
-    CRSF_VTX_SET_DYNAMIC_POWER = 0x06, /* power 1 */
-    CRSF_VTX_SET_POWER = 0x08,         /* power 1 */
+    CRSF_VTX_SET_FREQUENCY = 0x02,               /* u16 frequency 5000-6000, in MHz */
+    CRSF_VTX_ENABLE_PIT_MODE_ON_POWER_UP = 0x04, /* flag mode, u8 control 0-3, u8 switch 0-15 */
+    CRSF_VTX_POWER_UP_FROM_PIT_MODE = 0x05,      /* no values */
+    CRSF_VTX_SET_DYNAMIC_POWER = 0x06,           /* u8 power, in dBm */
+    CRSF_VTX_SET_POWER = 0x08,                   /* u8 power, in dBm */
 
-    /* a colour: hue 2, saturation 1, value 1 */
-    CRSF_LED_SET_DEFAULT = 0x01,
+    /* a colour: u16 hue 0-359, u8 saturation 0-100, u8 value 0-100 */
+    CRSF_LED_SET_DEFAULT = 0x01,    /* no values */
     CRSF_LED_OVERRIDE_COLOR = 0x02, /* colour */
-    CRSF_LED_OVERRIDE_PULSE = 0x03, /* time 2, start colour, stop colour */
-    CRSF_LED_OVERRIDE_BLINK = 0x04, /* the same */
-    CRSF_LED_OVERRIDE_SHIFT = 0x05, /* time 2, colour */
+    CRSF_LED_OVERRIDE_PULSE = 0x03, /* u16 time in ms, start colour, stop colour */
+    CRSF_LED_OVERRIDE_BLINK = 0x04, /* u16 time in ms, start colour, stop colour */
+    CRSF_LED_OVERRIDE_SHIFT = 0x05, /* u16 time in ms, colour */
 
-    CRSF_GENERAL_SPEED_PROPOSAL = 0x70,          /* port 1, baud rate 4 */
-    CRSF_GENERAL_SPEED_PROPOSAL_RESPONSE = 0x71, /* port 1, accepted 1 (0 or 1) */
+    CRSF_GENERAL_SPEED_PROPOSAL = 0x70,          /* u8 port, u32 baud rate */
+    CRSF_GENERAL_SPEED_PROPOSAL_RESPONSE = 0x71, /* u8 port, flag accepted */
 
-    CRSF_CROSSFIRE_SET_RECEIVER_IN_BIND_MODE = 0x01,
-    CRSF_CROSSFIRE_CANCEL_BIND_MODE = 0x02,
-    CRSF_CROSSFIRE_SET_BIND_ID = 0x03,
-    CRSF_CROSSFIRE_MODEL_SELECTION = 0x05, /* model 1 */
-    CRSF_CROSSFIRE_CURRENT_MODEL_SELECTION = 0x06,
-    CRSF_CROSSFIRE_REPLY_CURRENT_MODEL_SELECTION = 0x07, /* model 1 */
-    CRSF_CROSSFIRE_ENABLE_RX_TELEMETRY = 0x0A,
-    CRSF_CROSSFIRE_DISABLE_RX_TELEMETRY = 0x0B,
-    CRSF_CROSSFIRE_FACTORY_RESET = 0x0C,
-    CRSF_CROSSFIRE_RESET_TO_FACTORY_FIRMWARE = 0x0D,
+    CRSF_CROSSFIRE_SET_RECEIVER_IN_BIND_MODE = 0x01,     /* no values */
+    CRSF_CROSSFIRE_CANCEL_BIND_MODE = 0x02,              /* no values */
+    CRSF_CROSSFIRE_SET_BIND_ID = 0x03,                   /* no values */
+    CRSF_CROSSFIRE_MODEL_SELECTION = 0x05,               /* u8 model */
+    CRSF_CROSSFIRE_CURRENT_MODEL_SELECTION = 0x06,       /* no values */
+    CRSF_CROSSFIRE_REPLY_CURRENT_MODEL_SELECTION = 0x07, /* u8 model */
+    CRSF_CROSSFIRE_ENABLE_RX_TELEMETRY = 0x0A,           /* no values */
+    CRSF_CROSSFIRE_DISABLE_RX_TELEMETRY = 0x0B,          /* no values */
+    CRSF_CROSSFIRE_FACTORY_RESET = 0x0C,                 /* no values */
+    CRSF_CROSSFIRE_RESET_TO_FACTORY_FIRMWARE = 0x0D,     /* no values */
 
-    CRSF_FLOW_CONTROL_SUBSCRIBE = 0x01,   /* frame type 1, interval 2 */
-    CRSF_FLOW_CONTROL_UNSUBSCRIBE = 0x02, /* frame type 1 */
+    CRSF_FLOW_CONTROL_SUBSCRIBE = 0x01,   /* u8 frame type, u16 interval in ms */
+    CRSF_FLOW_CONTROL_UNSUBSCRIBE = 0x02, /* u8 frame type */
 
     CRSF_SCREEN_POPUP_MESSAGE_START = 0x01,    /* no values; the popup is stored */
-    CRSF_SCREEN_SELECTION_RETURN_VALUE = 0x02, /* value 1, response 1 (0 or 1) */
+    CRSF_SCREEN_SELECTION_RETURN_VALUE = 0x02, /* u8 value, flag response */
 
-    CRSF_ACK_NO_SUB_COMMAND = 0x00 /* command id 1, sub-command id 1, action 1; the information is stored */
+    CRSF_ACK_NO_SUB_COMMAND = 0x00 /* u8 command id, u8 sub-command id, u8 action 0-1; the information is stored */
 };
 
-/* IMAGES. A record, text, ACK or popup crosses this boundary as bytes. Handed in, an image has exactly its size: another length is
- * 5, and so are bytes that are the image of no record (an unknown id or sub-command, a flag or kind out of range, a byte after the
- * values that is not 0). Handed out, it needs at least its size: less is 3, before all else; more keeps its bytes behind it. */
+/* IMAGES. A record, text, ACK or popup crosses this boundary as bytes. Handed in, an image has exactly its size:
+ * another length is 5, and so are bytes that are the image of no record (an unknown id or sub-command, a flag or kind
+ * out of range, a byte after the values that is not 0). Handed out, it needs at least its size: less is 3, before all
+ * else; more keeps its bytes behind it.
+ *
+ * A popup goes into a record, and comes out of one, as it is: its image is the record's bytes from CRSF_RECORD_LENGTH
+ * on. An ACK goes in, and comes out, in two pieces: its first three bytes are the record's values, the others are the
+ * record's bytes from CRSF_RECORD_LENGTH on, with zeros behind them.
+ *
+ *     memcpy(record + CRSF_RECORD_LENGTH, popup, CRSF_POPUP_SIZE);
+ *
+ *     memcpy(record + CRSF_RECORD_VALUES, ack, CRSF_ACK_VALUES_SIZE);
+ *     memcpy(record + CRSF_RECORD_LENGTH, ack + CRSF_ACK_LENGTH, CRSF_ACK_STORED_SIZE);
+ *
+ * MADE are images whose stored bytes these functions can have handed out. Of a text and of an ACK's information: the
+ * length is within its limit, and none of so many bytes is 0. Of a popup: length and bytes are exactly what crsf_popup
+ * gives for some fields. Of a command that stores nothing: the length is 0. In all of them every place behind the bytes
+ * is 0. An image handed in that is not made is 5. Values are outside this: their ranges are judged by crsf_write. */
 enum {
     CRSF_RECORD_DESTINATION = 0,
     CRSF_RECORD_SOURCE = 1,
     CRSF_RECORD_ID = 2,
     CRSF_RECORD_SUB_COMMAND = 3,
-    CRSF_RECORD_VALUES = 4, /* 10 bytes: the values above, zeros after */
+    CRSF_RECORD_VALUES = 4,  /* 10 bytes: the values above, zeros after */
     CRSF_RECORD_LENGTH = 14, /* of the stored bytes; 0 where nothing is stored */
     CRSF_RECORD_BYTES = 15,  /* 55 bytes: a popup, or an ACK's information; zeros after */
     CRSF_RECORD_SIZE = 70
@@ -109,7 +162,7 @@ enum {
 
 enum {
     CRSF_TEXT_LENGTH = 0,
-    CRSF_TEXT_BYTES = 1, /* 51 bytes */
+    CRSF_TEXT_BYTES = 1, /* CRSF_MAX_TEXT bytes: the text, zeros after */
     CRSF_TEXT_SIZE = 52
 };
 
@@ -117,114 +170,166 @@ enum {
     CRSF_ACK_COMMAND_ID = 0,
     CRSF_ACK_SUB_COMMAND_ID = 1,
     CRSF_ACK_ACTION = 2,
+    CRSF_ACK_VALUES_SIZE = 3, /* of the three above */
     CRSF_ACK_LENGTH = 3,
-    CRSF_ACK_INFORMATION = 4, /* 52 bytes */
+    CRSF_ACK_INFORMATION = 4,  /* CRSF_MAX_INFORMATION bytes: the information, zeros after */
+    CRSF_ACK_STORED_SIZE = 53, /* of the length and the information */
     CRSF_ACK_SIZE = 56
 };
 
 enum {
     CRSF_POPUP_LENGTH = 0,
-    CRSF_POPUP_BYTES = 1, /* 55 bytes */
+    CRSF_POPUP_BYTES = 1, /* CRSF_MAX_POPUP bytes: the popup, zeros after */
     CRSF_POPUP_SIZE = 56
 };
 
+/* What a popup shows. Each text is a text's image, CRSF_TEXT_SIZE bytes, as crsf_text gives it; zeros are the empty
+ * text. Label, value, min, max, default and unit are there where the kind of additional data is a selection, possible
+ * values where the flag before them is 1; what is not there is not looked at, and is handed out as zeros. */
 enum {
-    CRSF_FIELDS_HEADER = 0, /* a text's image, as the four other texts */
-    CRSF_FIELDS_INFO = 52,
-    CRSF_FIELDS_TIMEOUT = 104,
-    CRSF_FIELDS_CLOSE = 105,      /* 0 or 1 */
-    CRSF_FIELDS_ADDITIONAL = 106, /* one of the three below */
-    CRSF_FIELDS_LABEL = 107,
-    CRSF_FIELDS_VALUE = 159,
-    CRSF_FIELDS_MIN = 160,
-    CRSF_FIELDS_MAX = 161,
-    CRSF_FIELDS_DEFAULT = 162,
-    CRSF_FIELDS_UNIT = 163,
-    CRSF_FIELDS_HAS_POSSIBLE_VALUES = 215, /* 0 or 1 */
-    CRSF_FIELDS_POSSIBLE_VALUES = 216,
-    CRSF_FIELDS_SIZE = 268
+    CRSF_POPUP_FIELDS_HEADER = 0,       /* text */
+    CRSF_POPUP_FIELDS_INFO = 52,        /* text */
+    CRSF_POPUP_FIELDS_TIMEOUT = 104,    /* u8, in seconds */
+    CRSF_POPUP_FIELDS_CLOSE = 105,      /* flag: whether there is a close button */
+    CRSF_POPUP_FIELDS_ADDITIONAL = 106, /* u8, one of the three kinds below */
+    CRSF_POPUP_FIELDS_LABEL = 107,      /* text, not empty */
+    CRSF_POPUP_FIELDS_VALUE = 159,      /* u8, as the next three, which are not compared with each other */
+    CRSF_POPUP_FIELDS_MIN = 160,
+    CRSF_POPUP_FIELDS_MAX = 161,
+    CRSF_POPUP_FIELDS_DEFAULT = 162,
+    CRSF_POPUP_FIELDS_UNIT = 163,                /* text */
+    CRSF_POPUP_FIELDS_HAS_POSSIBLE_VALUES = 215, /* flag; with additional data only, which may be the empty one */
+    CRSF_POPUP_FIELDS_POSSIBLE_VALUES = 216,     /* text: the answers to choose from, a semicolon between them */
+    CRSF_POPUP_FIELDS_SIZE = 268
 };
 
-enum { CRSF_ADDITIONAL_ABSENT = 0, CRSF_ADDITIONAL_EMPTY = 1, CRSF_ADDITIONAL_SELECTION = 2 };
+enum {
+    CRSF_ADDITIONAL_ABSENT = 0,
+    CRSF_ADDITIONAL_EMPTY = 1, /* a byte that holds the place of a selection */
+    CRSF_ADDITIONAL_SELECTION = 2
+};
 
-/* FIELDS that can be edited, and what commands have them. Numbers are 0 to 255 where no range is given. */
+/* FIELDS that can be edited, and what commands have them. Numbers are 0-255 where no range is given. */
 enum {
     CRSF_FIELD_DESTINATION = 1, /* every command */
-    CRSF_FIELD_SOURCE = 2,
+    CRSF_FIELD_SOURCE = 2,      /* every command */
 
     CRSF_FIELD_BUTTONS = 10,
 
-    CRSF_FIELD_FREQUENCY = 20,   /* 5000 to 6000 */
-    CRSF_FIELD_PIT_MODE = 21,    /* 0 or 1 */
-    CRSF_FIELD_PIT_CONTROL = 22, /* 0 to 3 */
-    CRSF_FIELD_PIT_SWITCH = 23,  /* 0 to 15 */
+    CRSF_FIELD_FREQUENCY = 20,   /* 5000-6000 */
+    CRSF_FIELD_PIT_MODE = 21,    /* 0-1 */
+    CRSF_FIELD_PIT_CONTROL = 22, /* 0-3 */
+    CRSF_FIELD_PIT_SWITCH = 23,  /* 0-15 */
     CRSF_FIELD_POWER = 24,       /* both commands that set it */
 
-    CRSF_FIELD_TIME = 30,       /* 0 to 65535 */
-    CRSF_FIELD_HUE = 31,        /* 0 to 359; these three of the only or the start colour */
-    CRSF_FIELD_SATURATION = 32, /* 0 to 100 */
-    CRSF_FIELD_VALUE = 33,      /* 0 to 100 */
-    CRSF_FIELD_STOP_HUE = 34,   /* the same three of the stop colour */
-    CRSF_FIELD_STOP_SATURATION = 35,
-    CRSF_FIELD_STOP_VALUE = 36,
+    CRSF_FIELD_TIME = 30,            /* 0-65535 */
+    CRSF_FIELD_HUE = 31,             /* 0-359; these three of the only or the start colour */
+    CRSF_FIELD_SATURATION = 32,      /* 0-100 */
+    CRSF_FIELD_VALUE = 33,           /* 0-100 */
+    CRSF_FIELD_STOP_HUE = 34,        /* 0-359; these three of the stop colour */
+    CRSF_FIELD_STOP_SATURATION = 35, /* 0-100 */
+    CRSF_FIELD_STOP_VALUE = 36,      /* 0-100 */
 
     CRSF_FIELD_PORT = 40,     /* of the proposal and of its response */
     CRSF_FIELD_BAUD = 41,     /* any number */
-    CRSF_FIELD_ACCEPTED = 42, /* 0 or 1 */
+    CRSF_FIELD_ACCEPTED = 42, /* 0-1 */
 
     CRSF_FIELD_MODEL = 50, /* of the selection and of its reply */
 
     CRSF_FIELD_FRAME_TYPE = 60, /* both commands */
-    CRSF_FIELD_INTERVAL = 61,   /* 0 to 65535 */
+    CRSF_FIELD_INTERVAL = 61,   /* 0-65535 */
 
     CRSF_FIELD_TIMEOUT = 70,         /* every popup */
-    CRSF_FIELD_CLOSE = 71,           /* 0 or 1 */
-    CRSF_FIELD_SELECTION_VALUE = 72, /* popups with a selection */
+    CRSF_FIELD_CLOSE = 71,           /* 0-1; every popup */
+    CRSF_FIELD_SELECTION_VALUE = 72, /* popups with a selection, as the next three */
     CRSF_FIELD_SELECTION_MIN = 73,
     CRSF_FIELD_SELECTION_MAX = 74,
     CRSF_FIELD_SELECTION_DEFAULT = 75,
     CRSF_FIELD_RETURNED_VALUE = 76,
-    CRSF_FIELD_RESPONSE = 77, /* 0 or 1 */
+    CRSF_FIELD_RESPONSE = 77, /* 0-1 */
 
     CRSF_FIELD_ACK_COMMAND_ID = 80, /* what an ACK answers, not the payload's own id */
     CRSF_FIELD_ACK_SUB_COMMAND_ID = 81,
-    CRSF_FIELD_ACK_ACTION = 82 /* 0 or 1 */
+    CRSF_FIELD_ACK_ACTION = 82 /* 0-1 */
 };
 
-/* An edit in a list: field, then number, 4 bytes each. */
+/* An edit in a list: u32 field, u32 number. crsf_put_edit puts one, CRSF_EDIT_SIZE bytes. */
 enum { CRSF_EDIT_FIELD = 0, CRSF_EDIT_NUMBER = 4, CRSF_EDIT_SIZE = 8 };
 
-/* Reads a payload into a record's image. */
-uint32_t crsf_read(const uint8_t *payload, size_t len, uint8_t *record, size_t record_len);
+static inline void crsf_put_edit(uint8_t *edit, uint32_t field, uint32_t number)
+{
+    int i;
+    for (i = 0; i < 4; i++) {
+        edit[CRSF_EDIT_FIELD + i] = field >> (24 - 8 * i) & 0xFFu;
+        edit[CRSF_EDIT_NUMBER + i] = number >> (24 - 8 * i) & 0xFFu;
+    }
+}
 
-/* Writes the command of a record's image into the front of a buffer; the count is the payload's length, and the rest of the buffer
- * keeps its bytes. */
-uint32_t crsf_write(const uint8_t *record, size_t record_len, uint8_t *buffer, size_t len);
+/* Reads a payload into a record's image. Bytes of the body behind the command are ignored. Refused:
+ * 3, less room than CRSF_RECORD_SIZE;
+ * 1, a payload below CRSF_MIN_PAYLOAD or above CRSF_MAX_PAYLOAD bytes;
+ * 2, another check than the payload's;
+ * 4, command id 0x03 or 0x13; 2, another id that is none of the command ids above;
+ * then the sub-command, and value by value, a colour being one: 1, bytes of it are missing; 2, it is unknown or out of
+ * range. A text that does not end in 0, or has more than CRSF_MAX_TEXT bytes, is 1. An ACK's information has to end in
+ * 0 (1) before its action is judged (2).
+ * The count is 0. */
+CRSF_MUST_USE uint32_t crsf_read(const uint8_t *payload, size_t len, uint8_t *record, size_t record_len);
 
-/* Sets one field of the command that a payload holds, in place: all else that it says stays, and the check is renewed. Refused in
- * this order: as reading refuses; 6; 7; 8. */
-uint32_t crsf_edit(uint8_t *payload, size_t len, uint32_t field, uint32_t number);
+/* Writes the command of a record's image into the front of a buffer, of which the rest keeps its bytes; into
+ * CRSF_MAX_PAYLOAD bytes every command fits. The count is the payload's length. Refused:
+ * 5, no image of a record, or not made;
+ * 3, a buffer below CRSF_MIN_PAYLOAD bytes;
+ * then 2, a number out of range, and 3, too little room: VTX and ACK look at all numbers first; LED goes value by
+ * value, and looks at a colour's numbers before its room; the others have no ranges. */
+CRSF_MUST_USE uint32_t crsf_write(const uint8_t *record, size_t record_len, uint8_t *buffer, size_t len);
 
-/* Carries out edits one after the other. Each one's number, 0 or a refusal as crsf_edit gives it, goes to its answer byte, and a
- * refused edit stops none behind it; answer bytes beyond the edits keep theirs. The answer is 0; or, with nothing done, 1 for a
- * list whose length is no multiple of 8, then 3 for fewer answer bytes than edits. */
-uint32_t crsf_edit_list(uint8_t *payload, size_t len, const uint8_t *edits, size_t edits_len, uint8_t *answers,
-                        size_t answers_len);
+/* Sets one field of the command that a payload holds, in place: all else that it says stays, and the check is renewed.
+ * The count is 0. Refused:
+ * as crsf_read refuses the payload, from 1 on;
+ * 6, writing the command that was read gives other bytes (some stood behind it, or bit 7 of a pit byte is set);
+ * 7, the command has no such field;
+ * 8, a number outside the field's range. */
+CRSF_MUST_USE uint32_t crsf_edit(uint8_t *payload, size_t len, uint32_t field, uint32_t number);
 
-/* A text of up to 51 bytes, none 0. */
-uint32_t crsf_text(const uint8_t *bytes, size_t len, uint8_t *text, size_t text_len);
+/* Carries out edits one after the other, CRSF_EDIT_SIZE bytes each. Each one's number, 0 or a refusal as crsf_edit
+ * gives it, goes to its answer byte, and a refused edit stops none behind it; answer bytes beyond the edits keep what
+ * they hold. The count is 0. Refused, with nothing done:
+ * 1, a list whose length is no multiple of CRSF_EDIT_SIZE;
+ * 3, fewer answer bytes than edits. */
+CRSF_MUST_USE uint32_t crsf_edit_list(uint8_t *payload, size_t len, const uint8_t *edits, size_t edits_len,
+                                      uint8_t *answers, size_t answers_len);
 
-/* An ACK with up to 52 bytes of information, none 0; the action is 0 or 1. */
-uint32_t crsf_ack(uint8_t command_id, uint8_t sub_command_id, uint8_t action, const uint8_t *information, size_t len, uint8_t *ack,
-                  size_t ack_len);
+/* The image of a text of these bytes, without a 0 behind them. The count is 0. Refused:
+ * 3, less room than CRSF_TEXT_SIZE;
+ * 2, a byte that is 0;
+ * 1, more than CRSF_MAX_TEXT bytes. */
+CRSF_MUST_USE uint32_t crsf_text(const uint8_t *bytes, size_t len, uint8_t *text, size_t text_len);
 
-/* The popup of these fields, at most 55 bytes; and the fields of a popup. */
-uint32_t crsf_popup(const uint8_t *fields, size_t fields_len, uint8_t *popup, size_t popup_len);
-uint32_t crsf_popup_fields(const uint8_t *popup, size_t popup_len, uint8_t *fields, size_t fields_len);
+/* The image of an ACK: what it answers; whether that is rejected (0) or accepted (1); information, without a 0 behind
+ * it. The count is 0. Refused:
+ * 3, less room than CRSF_ACK_SIZE;
+ * 1, more than CRSF_MAX_INFORMATION bytes;
+ * 2, an action above 1, a byte that is 0. */
+CRSF_MUST_USE uint32_t crsf_ack(uint8_t command_id, uint8_t sub_command_id, uint8_t action, const uint8_t *information,
+                                size_t len, uint8_t *ack, size_t ack_len);
 
-/* The check of bytes, from start: 0, or the check of what came before. It is the remainder of the message, times x^8, divided by
- * x^8+x^7+x^5+x^4+x^3+x. Of no bytes it is start. */
-uint8_t crsf_check(const uint8_t *bytes, size_t len, uint8_t start);
+/* The image of the popup of these fields. The count is 0. Refused:
+ * 3, less room than CRSF_POPUP_SIZE;
+ * 5, no image of fields (another length, a flag or kind out of range), or a text that is there is not made;
+ * 2, possible values without additional data;
+ * then field by field: 1, more than CRSF_MAX_POPUP bytes; 2, an empty label, before its own room. */
+CRSF_MUST_USE uint32_t crsf_popup(const uint8_t *fields, size_t fields_len, uint8_t *popup, size_t popup_len);
+
+/* The image of the fields of a popup. The count is 0. Refused:
+ * 3, less room than CRSF_POPUP_FIELDS_SIZE;
+ * 5, no image of a popup (another length), or not made. */
+CRSF_MUST_USE uint32_t crsf_popup_fields(const uint8_t *popup, size_t popup_len, uint8_t *fields, size_t fields_len);
+
+/* The check of bytes, from start: 0, or the check of what came before. It is the remainder of the message, times x^8,
+ * divided by x^8+x^7+x^5+x^4+x^3+x. Of no bytes it is start. No answer as above, but the check itself: nothing is
+ * refused. */
+CRSF_MUST_USE uint8_t crsf_check(const uint8_t *bytes, size_t len, uint8_t start);
 
 #ifdef __cplusplus
 }

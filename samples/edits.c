@@ -19,12 +19,6 @@ static void edit(const char *what, uint8_t *payload, size_t len, uint32_t field,
     show(payload, len);
 }
 
-static void put(uint8_t *bytes, uint32_t number)
-{
-    for (int i = 0; i < 4; i++)
-        bytes[i] = (uint8_t)(number >> (24 - 8 * i));
-}
-
 int main(void)
 {
     const uint8_t frequency[] = {0xC8, 0xEA, 0x08, 0x02, 0x16, 0xA8, 0x0E}; /* 5800 MHz */
@@ -37,7 +31,7 @@ int main(void)
     edit("5000 MHz", payload, sizeof payload, CRSF_FIELD_FREQUENCY, 5000);
     edit("destination of what is not as written", disarm, sizeof disarm, CRSF_FIELD_DESTINATION, 0xEE);
 
-    const uint32_t edits[][2] = {
+    static const struct { uint32_t field, number; } edits[] = {
         {CRSF_FIELD_FREQUENCY, 4999},
         {CRSF_FIELD_POWER, 20},
         {CRSF_FIELD_FREQUENCY, 6000},
@@ -45,10 +39,8 @@ int main(void)
     };
     enum { COUNT = sizeof edits / sizeof edits[0] };
     uint8_t list[COUNT * CRSF_EDIT_SIZE], answers[COUNT];
-    for (size_t i = 0; i < COUNT; i++) {
-        put(list + i * CRSF_EDIT_SIZE + CRSF_EDIT_FIELD, edits[i][0]);
-        put(list + i * CRSF_EDIT_SIZE + CRSF_EDIT_NUMBER, edits[i][1]);
-    }
+    for (size_t i = 0; i < COUNT; i++)
+        crsf_put_edit(list + i * CRSF_EDIT_SIZE, edits[i].field, edits[i].number);
     memcpy(payload, frequency, sizeof payload);
     uint32_t answer = crsf_edit_list(payload, sizeof payload, list, sizeof list, answers, sizeof answers);
     printf("list: %u, answers", CRSF_NUMBER(answer));

@@ -7,6 +7,15 @@ use crate::edits::Edit;
 /// The largest length of a payload.
 pub const MAX_PAYLOAD: usize = 60;
 
+/// The largest length of a text.
+pub const MAX_TEXT: usize = 51;
+
+/// The largest length of an ACK's information.
+pub const MAX_INFORMATION: usize = 52;
+
+/// The largest length of a popup.
+pub const MAX_POPUP: usize = 55;
+
 /// Bytes of the image of a command.
 pub const RECORD_SIZE: usize = 70;
 
@@ -20,7 +29,7 @@ pub const ACK_SIZE: usize = 56;
 pub const POPUP_SIZE: usize = 56;
 
 /// Bytes of the image of a popup's fields.
-pub const FIELDS_SIZE: usize = 268;
+pub const POPUP_FIELDS_SIZE: usize = 268;
 
 /// Bytes of an edit in a list: field, then number, 4 each.
 pub const EDIT_SIZE: usize = 8;
@@ -31,10 +40,16 @@ pub const fn number(word: u32) -> u8 {
     word as u8
 }
 
-/// How many bytes were written, as a word says.
+/// How many bytes were written, as a word says: 0 but from [`write()`].
 #[inline]
 pub const fn count(word: u32) -> usize {
     (word >> 8 & 0xFF) as usize
+}
+
+/// The place of a refusal, as a word says: 0 so far.
+#[inline]
+pub const fn place(word: u32) -> usize {
+    (word >> 16) as usize
 }
 
 extern "C" {

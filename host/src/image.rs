@@ -13,7 +13,7 @@ mod record;
 pub(crate) use fields::{fields, of_fields};
 pub(crate) use record::{command, of_command};
 
-use numbers::{ACK_ACTION, ACK_COMMAND_ID, ACK_LENGTH, ACK_SUB_COMMAND_ID};
+use numbers::{ACK_ACTION, ACK_COMMAND_ID, ACK_LENGTH, ACK_STORED_SIZE, ACK_SUB_COMMAND_ID};
 
 /// Why a case is not looked for.
 const HANDED_OUT: &str = "an image that C hands out is that of a record";
@@ -23,7 +23,7 @@ const HANDED_OUT: &str = "an image that C hands out is that of a record";
 pub(crate) struct Stored<const SIZE: usize>([u8; SIZE]);
 
 /// An ACK's information: all of its image from the length on.
-pub(crate) type Information = Stored<{ ACK_SIZE - ACK_LENGTH }>;
+pub(crate) type Information = Stored<ACK_STORED_SIZE>;
 
 impl<const SIZE: usize> Stored<SIZE> {
     /// A copy of what lies at a place of an image.

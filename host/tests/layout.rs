@@ -1,14 +1,17 @@
 //! The crate's public numbers are those of include/crsf.h. What lies in images is held to it beside the code (src/image/numbers.rs).
 mod header;
+mod laid;
 mod payloads;
 
 use crsf::boundary::{
-    self, ACK_SIZE, EDIT_SIZE, FIELDS_SIZE, MAX_PAYLOAD, POPUP_SIZE, RECORD_SIZE, TEXT_SIZE,
+    self, ACK_SIZE, EDIT_SIZE, MAX_INFORMATION, MAX_PAYLOAD, MAX_POPUP, MAX_TEXT,
+    POPUP_FIELDS_SIZE, POPUP_SIZE, RECORD_SIZE, TEXT_SIZE,
 };
 use crsf::packets::{CrsfPacket, DirectCommands};
-use crsf::{edit_list, field, CrsfParsingError, Edit};
+use crsf::{edit_list, CrsfParsingError, Edit, Field};
 use header::Names;
-use payloads::{M1, M3, M3_EDITED};
+use laid::{record, Laid};
+use payloads::{payload, M1, M3, M3_EDITED};
 
 const REFUSALS: [(&str, CrsfParsingError); 8] = [
     (
@@ -24,32 +27,37 @@ const REFUSALS: [(&str, CrsfParsingError); 8] = [
     ("OUTSIDE_RANGE", CrsfParsingError::NumberOutsideRange),
 ];
 
-macro_rules! fields {
-    ($($name:ident)*) => { [$((concat!("FIELD_", stringify!($name)), field::$name)),*] };
+/// The header's name of a field: `FIELD_PIT_MODE` of `PitMode`.
+fn named(field: Field) -> (String, u32) {
+    let mut name = String::from("FIELD");
+    for letter in format!("{field:?}").chars() {
+        if letter.is_ascii_uppercase() {
+            name.push('_');
+        }
+        name.push(letter.to_ascii_uppercase());
+    }
+    (name, field.number())
 }
 
-/// Document 01's 32 fields.
-const FIELDS: [(&str, u32); 32] = fields! {
-    DESTINATION SOURCE
-    BUTTONS
-    FREQUENCY PIT_MODE PIT_CONTROL PIT_SWITCH POWER
-    TIME HUE SATURATION VALUE STOP_HUE STOP_SATURATION STOP_VALUE
-    PORT BAUD ACCEPTED
-    MODEL
-    FRAME_TYPE INTERVAL
-    TIMEOUT CLOSE SELECTION_VALUE SELECTION_MIN SELECTION_MAX SELECTION_DEFAULT RETURNED_VALUE RESPONSE
-    ACK_COMMAND_ID ACK_SUB_COMMAND_ID ACK_ACTION
-};
-
-const SIZES: [(&str, usize); 8] = [
+const SIZES: [(&str, usize); 11] = [
     ("MIN_PAYLOAD", DirectCommands::MIN_PAYLOAD_SIZE),
     ("MAX_PAYLOAD", MAX_PAYLOAD),
+    ("MAX_TEXT", MAX_TEXT),
+    ("MAX_INFORMATION", MAX_INFORMATION),
+    ("MAX_POPUP", MAX_POPUP),
     ("RECORD_SIZE", RECORD_SIZE),
     ("TEXT_SIZE", TEXT_SIZE),
     ("ACK_SIZE", ACK_SIZE),
     ("POPUP_SIZE", POPUP_SIZE),
-    ("FIELDS_SIZE", FIELDS_SIZE),
+    ("POPUP_FIELDS_SIZE", POPUP_FIELDS_SIZE),
     ("EDIT_SIZE", EDIT_SIZE),
+];
+
+/// Cargo.toml's.
+const VERSION: [(&str, &str); 3] = [
+    ("VERSION_MAJOR", env!("CARGO_PKG_VERSION_MAJOR")),
+    ("VERSION_MINOR", env!("CARGO_PKG_VERSION_MINOR")),
+    ("VERSION_PATCH", env!("CARGO_PKG_VERSION_PATCH")),
 ];
 
 /// What the header names and the crate shows by what it does: `accepted_is_no_refusal`, `an_edit_lies_as_the_header_says`.
@@ -61,17 +69,59 @@ fn numbers_are_those_of_the_header() {
     let frame_type = ("FRAME_TYPE", DirectCommands::PACKET_TYPE as u32);
     let refusals = REFUSALS.map(|(name, refusal)| (name, refusal.number().into()));
     let sizes = SIZES.map(|(name, size)| (name, size as u32));
+    let version = VERSION.map(|(name, number)| (name, number.parse().unwrap()));
     let ours = [frame_type]
         .into_iter()
         .chain(refusals)
-        .chain(FIELDS)
-        .chain(sizes);
-    let ours: Names = ours.map(|(name, number)| (name.into(), number)).collect();
+        .chain(sizes)
+        .chain(version);
+    let mut ours: Names = ours.map(|(name, number)| (name.into(), number)).collect();
+    ours.extend(Field::ALL.map(named));
     let mut theirs = header::names(false);
     for name in SHOWN {
         assert!(theirs.remove(name).is_some(), "{name}");
     }
     assert_eq!(ours, theirs);
+}
+
+#[test]
+fn the_version_is_the_headers() {
+    assert_eq!(header::version(), env!("CARGO_PKG_VERSION"));
+}
+
+/// Document 01: "These 32 rows".
+#[test]
+fn every_number_has_its_field_and_no_other() {
+    let mut found: Vec<u32> = Vec::new();
+    for number in 0..1000 {
+        if let Some(field) = Field::from_number(number) {
+            assert_eq!((field.number(), u32::from(field)), (number, number));
+            found.push(number);
+        }
+    }
+    assert_eq!(found.len(), 32);
+    let theirs = header::names(false);
+    let fields = theirs.iter().filter(|(name, _)| name.starts_with("FIELD_"));
+    let mut theirs: Vec<u32> = fields.map(|(_, number)| *number).collect();
+    theirs.sort();
+    assert_eq!(found, theirs);
+    assert_eq!(Field::from_number(u32::MAX), None);
+}
+
+/// "0 or a refusal in bits 0-7, a count of bytes in bits 8-15, a place in bits 16-31".
+#[test]
+fn a_word_says_number_count_and_place() {
+    let word = 0xFE01 << 16 | 60 << 8 | 7;
+    assert_eq!(boundary::number(word), 7);
+    assert_eq!(boundary::count(word), 60);
+    assert_eq!(boundary::place(word), 0xFE01);
+    assert_eq!(boundary::place(0xFFFF), 0);
+    // M10: disarm into 5 bytes
+    let mut record = [0; RECORD_SIZE];
+    assert_eq!(boundary::read(&M1, &mut record), 0);
+    let word = boundary::write(&record, &mut [0; 5]);
+    assert_eq!((boundary::number(word), boundary::count(word)), (0, 5));
+    assert_eq!(boundary::place(word), 0);
 }
 
 #[test]
@@ -102,7 +152,7 @@ fn an_edit_lies_as_the_header_says() {
     let names = header::names(false);
     let place = |name: &str| names[name] as usize;
     let (field, number) = (place("EDIT_FIELD"), place("EDIT_NUMBER"));
-    let edits: [(u32, u32); 2] = [(field::FREQUENCY, 5000), (0x0001_0203, 0x0405_0607)];
+    let edits: [(u32, u32); 2] = [(Field::Frequency.into(), 5000), (0x0001_0203, 0x0405_0607)];
     let mut list = [[0; EDIT_SIZE]; 2];
     for (bytes, edit) in list.iter_mut().zip(edits) {
         bytes[field..field + 4].copy_from_slice(&edit.0.to_be_bytes());
@@ -121,4 +171,60 @@ fn an_edit_lies_as_the_header_says() {
     assert_eq!(edit_list(&mut payload, &typed, &mut answers), Ok(()));
     assert_eq!((payload, answers), (M3_EDITED, [0, 7]));
     assert_eq!(size_of_val(&typed), size_of_val(&list));
+}
+
+/// A record is written as the payload, and read of it.
+fn crosses(record: &[u8; RECORD_SIZE], payload: &[u8]) {
+    let (mut buffer, mut read) = ([0; MAX_PAYLOAD], [0xA5; RECORD_SIZE]);
+    let word = boundary::write(record, &mut buffer);
+    assert_eq!(boundary::number(word), 0);
+    assert_eq!(&buffer[..boundary::count(word)], payload);
+    assert_eq!(boundary::read(payload, &mut read), 0);
+    assert_eq!(&read, record);
+}
+
+/// "Its image is the record's bytes from CRSF_RECORD_LENGTH on", in and out; the payload by document 01's sheet.
+#[test]
+fn a_popup_goes_into_a_record_as_the_header_says() {
+    let fields = Laid::<POPUP_FIELDS_SIZE>::new()
+        .text("POPUP_FIELDS_HEADER", b"Hi")
+        .text("POPUP_FIELDS_INFO", b"Yo")
+        .put("POPUP_FIELDS_TIMEOUT", &[30])
+        .put("POPUP_FIELDS_CLOSE", &[1])
+        .named("POPUP_FIELDS_ADDITIONAL", "ADDITIONAL_SELECTION")
+        .text("POPUP_FIELDS_LABEL", b"Power")
+        .put("POPUP_FIELDS_VALUE", &[20])
+        .put("POPUP_FIELDS_MIN", &[2])
+        .put("POPUP_FIELDS_MAX", &[31])
+        .put("POPUP_FIELDS_DEFAULT", &[10])
+        .text("POPUP_FIELDS_UNIT", b"dBm")
+        .put("POPUP_FIELDS_HAS_POSSIBLE_VALUES", &[1])
+        .text("POPUP_FIELDS_POSSIBLE_VALUES", b"Yes;No");
+    let mut popup = [0; POPUP_SIZE];
+    assert_eq!(boundary::popup(&fields.image, &mut popup), 0);
+
+    let record = record("SCREEN", "SCREEN_POPUP_MESSAGE_START").put("RECORD_LENGTH", &popup);
+    let body = b"\x01Hi\0Yo\0\x1E\x01Power\0\x14\x02\x1F\x0AdBm\0Yes;No\0";
+    crosses(&record.image, &payload(0x22, body));
+
+    let stored = &record.image[record.at("RECORD_LENGTH")..];
+    let mut shown = [0xA5; POPUP_FIELDS_SIZE];
+    assert_eq!(boundary::popup_fields(stored, &mut shown), 0);
+    assert_eq!(shown, fields.image);
+}
+
+/// "Its first three bytes are the record's values, the others are the record's bytes from CRSF_RECORD_LENGTH on".
+#[test]
+fn an_ack_goes_into_a_record_as_the_header_says() {
+    let mut ack = [0; ACK_SIZE];
+    assert_eq!(boundary::ack(0x09, 0x05, 1, b"shift", &mut ack), 0);
+
+    let record = record("ACK", "ACK_NO_SUB_COMMAND");
+    let (values, stored) = ack.split_at(record.at("ACK_LENGTH"));
+    assert_eq!(values.len(), record.at("ACK_VALUES_SIZE"));
+    assert_eq!(stored.len(), record.at("ACK_STORED_SIZE"));
+    let record = record
+        .put("RECORD_VALUES", values)
+        .put("RECORD_LENGTH", stored);
+    crosses(&record.image, &payload(0xFF, b"\x09\x05\x01shift\0"));
 }

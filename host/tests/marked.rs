@@ -6,7 +6,7 @@ use crsf::packets::{
     LedCommand, ScreenAdditionalData, ScreenCommand, ScreenPopup, ScreenPopupFields, VtxCommand,
 };
 use crsf::CrsfParsingError::{self, *};
-use crsf::{edit, edit_list, field, Edit};
+use crsf::{edit, edit_list, Edit, Field};
 use payloads::{command, payload, M1, M2, M3, M3_EDITED};
 
 fn disarm() -> DirectCommands {
@@ -54,14 +54,14 @@ fn m2_reads_and_is_written_as_m1_and_is_not_edited() {
 
     let mut payload = M2;
     assert_eq!(
-        edit(&mut payload, field::DESTINATION, 0xEE),
+        edit(&mut payload, Field::Destination, 0xEE),
         Err(NotAsWritten)
     );
     assert_eq!(payload, M2);
     let mut answers = [0; 2];
     let edits = [
-        Edit::new(field::DESTINATION, 0xEE),
-        Edit::new(field::FREQUENCY, 5000),
+        Edit::new(Field::Destination, 0xEE),
+        Edit::new(Field::Frequency, 5000),
     ];
     assert_eq!(edit_list(&mut payload, &edits, &mut answers), Ok(()));
     assert_eq!((payload, answers), (M2, [6, 6]));
@@ -73,7 +73,7 @@ fn m3_is_5800_mhz_and_is_set_to_5000() {
     assert_eq!(written(&frequency(5800)), M3);
 
     let mut payload = M3;
-    assert_eq!(edit(&mut payload, field::FREQUENCY, 5000), Ok(()));
+    assert_eq!(edit(&mut payload, Field::Frequency, 5000), Ok(()));
     assert_eq!(payload, M3_EDITED);
     assert_eq!(DirectCommands::from_bytes(&payload), Ok(frequency(5000)));
 }
@@ -82,10 +82,10 @@ fn m3_is_5800_mhz_and_is_set_to_5000() {
 fn m4_on_m3_4999_is_8_and_field_24_is_7() {
     let mut payload = M3;
     assert_eq!(
-        edit(&mut payload, field::FREQUENCY, 4999),
+        edit(&mut payload, Field::Frequency, 4999),
         Err(NumberOutsideRange)
     );
-    assert_eq!(edit(&mut payload, field::POWER, 0), Err(NoSuchField));
+    assert_eq!(edit(&mut payload, Field::Power, 0), Err(NoSuchField));
     assert_eq!(payload, M3);
 }
 

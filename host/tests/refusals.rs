@@ -1,13 +1,13 @@
 //! Every number of document 01's table is had through the crate, with its name and words; and what a refusal leaves as it was.
 mod payloads;
 
-use crsf::boundary::{self, POPUP_SIZE, RECORD_SIZE};
+use crsf::boundary::{self, POPUP_FIELDS_SIZE, POPUP_SIZE, RECORD_SIZE};
 use crsf::packets::{
     CommandAck, CommandPayload, CommandString, CrsfPacket, DirectCommands, FcCommand,
     ScreenAdditionalData, ScreenPopup, ScreenPopupFields, ScreenSelection, VtxCommand,
 };
 use crsf::CrsfParsingError::{self, *};
-use crsf::{edit, edit_list, field, Edit};
+use crsf::{edit, edit_list, Edit, Field};
 use payloads::{command, payload, M2, M3, M3_EDITED};
 
 fn read(payload: &[u8]) -> CrsfParsingError {
@@ -18,7 +18,7 @@ fn written(command: &DirectCommands, room: usize) -> CrsfParsingError {
     command.to_bytes(&mut vec![0; room]).unwrap_err()
 }
 
-fn edited(payload: &[u8], field: u32, number: u32) -> CrsfParsingError {
+fn edited(payload: &[u8], field: impl Into<u32>, number: u32) -> CrsfParsingError {
     edit(&mut payload.to_vec(), field, number).unwrap_err()
 }
 
@@ -54,17 +54,17 @@ fn each_of_the_eight() {
         ),
         (record_not_made(), RecordNotMade, "record not made (5)"),
         (
-            edited(&M2, field::DESTINATION, 0),
+            edited(&M2, Field::Destination, 0),
             NotAsWritten,
             "not as written (6)",
         ),
         (
-            edited(&M3, field::POWER, 0),
+            edited(&M3, Field::Power, 0),
             NoSuchField,
             "no such field (7)",
         ),
         (
-            edited(&M3, field::FREQUENCY, 4999),
+            edited(&M3, Field::Frequency, 4999),
             NumberOutsideRange,
             "number outside range (8)",
         ),
@@ -110,23 +110,23 @@ fn reading_refuses_in_order() {
 #[test]
 fn edits_refuse_in_order() {
     assert_eq!(
-        edited(&[0xC8, 0xEA, 0x01, 0x22], 0, 0),
+        edited(&[0xC8, 0xEA, 0x01, 0x22], 0u32, 0),
         InvalidPayloadLength
     );
-    assert_eq!(edited(&[0xC8, 0xEA, 0x02, 0x56], 0, 0), InvalidPayload);
-    assert_eq!(edited(&[0xC8, 0xEA, 0x03, 0xEC], 0, 0), FamilyLeftBehind);
-    assert_eq!(edited(&M2, field::POWER, 256), NotAsWritten);
-    assert_eq!(edited(&M3, field::POWER, 256), NoSuchField);
-    assert_eq!(edited(&M3, field::SOURCE, 256), NumberOutsideRange);
+    assert_eq!(edited(&[0xC8, 0xEA, 0x02, 0x56], 0u32, 0), InvalidPayload);
+    assert_eq!(edited(&[0xC8, 0xEA, 0x03, 0xEC], 0u32, 0), FamilyLeftBehind);
+    assert_eq!(edited(&M2, Field::Power, 256), NotAsWritten);
+    assert_eq!(edited(&M3, Field::Power, 256), NoSuchField);
+    assert_eq!(edited(&M3, Field::Source, 256), NumberOutsideRange);
 }
 
 #[test]
 fn a_list_goes_on_after_a_refused_edit() {
     let (mut payload, mut answers) = (M3, [0xA5; 4]);
     let edits = [
-        Edit::new(field::FREQUENCY, 4999),
-        Edit::new(field::POWER, 1),
-        Edit::new(field::FREQUENCY, 5000),
+        Edit::new(Field::Frequency, 4999),
+        Edit::new(Field::Power, 1),
+        Edit::new(Field::Frequency, 5000),
     ];
     assert_eq!(edit_list(&mut payload, &edits, &mut answers), Ok(()));
     // behind the edits an answer byte keeps its own
@@ -141,7 +141,7 @@ fn a_list_goes_on_after_a_refused_edit() {
 #[test]
 fn a_list_with_fewer_answers_than_edits_does_nothing() {
     let (mut payload, mut answers) = (M3, [0xA5; 1]);
-    let edits = [Edit::new(field::FREQUENCY, 5000); 2];
+    let edits = [Edit::new(Field::Frequency, 5000); 2];
     assert_eq!(
         edit_list(&mut payload, &edits, &mut answers),
         Err(BufferOverflow)
@@ -229,7 +229,10 @@ fn public_values_are_judged_as_they_are_written() {
 #[test]
 fn the_boundary_answers_any_slice() {
     let blank_popup = [0; POPUP_SIZE];
-    assert_eq!(boundary::popup_fields(&blank_popup, &mut [0; 268]), 5);
+    assert_eq!(
+        boundary::popup_fields(&blank_popup, &mut [0; POPUP_FIELDS_SIZE]),
+        5
+    );
     assert_eq!(boundary::write(&[], &mut []), 5);
     assert_eq!(boundary::read(&M3, &mut [0; RECORD_SIZE - 1]), 3);
     assert_eq!(boundary::edit_list(&mut [], &[0; 7], &mut []), 1);

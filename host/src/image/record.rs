@@ -340,15 +340,15 @@ fn screen(sub: u8, values: Values, record: &Record) -> ScreenCommand {
 }
 
 fn of_ack(ack: &CommandAck) -> Record {
-    let values = [ack.command_id, ack.sub_command_id, ack.action];
+    let values: [u8; ACK_VALUES_SIZE] = [ack.command_id, ack.sub_command_id, ack.action];
     storing(with(ACK, ACK_NO_SUB_COMMAND, &[&values]), &ack.information)
 }
 
 fn ack(values: Values, record: &Record) -> CommandAck {
     CommandAck {
-        command_id: values.byte(0),
-        sub_command_id: values.byte(1),
-        action: values.byte(2),
+        command_id: values.byte(ACK_COMMAND_ID),
+        sub_command_id: values.byte(ACK_SUB_COMMAND_ID),
+        action: values.byte(ACK_ACTION),
         information: Stored::at(record, RECORD_LENGTH),
     }
 }

@@ -1,4 +1,6 @@
 //! The numbers of include/crsf.h, from its text.
+#![allow(dead_code)] // no test uses all of it
+
 use std::collections::BTreeMap;
 use std::string::{String, ToString};
 use std::vec::Vec;
@@ -7,9 +9,9 @@ use std::vec::Vec;
 pub type Names = BTreeMap<String, u32>;
 
 /// Of all that the header names, what lies in images (ids, sub-commands, places, kinds), or else the rest: refusals, fields, edits, sizes
-/// and limits. No name stands twice.
+/// of whole images, limits and the version. No name stands twice.
 pub fn names(in_images: bool) -> Names {
-    let header = without_comments(include_str!("../../../include/crsf.h"));
+    let header = code();
     let mut all = enums(&header);
     all.push(macros(&header));
     let mut names = Names::new();
@@ -24,12 +26,30 @@ pub fn names(in_images: bool) -> Names {
     names
 }
 
+/// All that the header names.
+pub fn all() -> Names {
+    let mut all = names(true);
+    all.extend(names(false));
+    all
+}
+
+/// The version as one text.
+pub fn version() -> String {
+    let header = code();
+    let rest = header.split_once("#define CRSF_VERSION \"");
+    let version = rest.and_then(|(_, rest)| rest.split_once('"'));
+    version.expect("a version").0.to_string()
+}
+
 fn lies_in_images(name: &str) -> bool {
-    let limits = ["FRAME_TYPE", "MIN_PAYLOAD", "MAX_PAYLOAD"];
-    let others = ["FIELD_", "EDIT_"];
-    !limits.contains(&name)
-        && !others.iter().any(|other| name.starts_with(other))
-        && !name.ends_with("_SIZE")
+    let parts = ["ACK_VALUES_SIZE", "ACK_STORED_SIZE"];
+    let others = ["FRAME_TYPE", "MIN_", "MAX_", "VERSION_", "FIELD_", "EDIT_"];
+    let other = name.ends_with("_SIZE") || others.iter().any(|other| name.starts_with(other));
+    parts.contains(&name) || !other
+}
+
+fn code() -> String {
+    without_comments(include_str!("../../../include/crsf.h"))
 }
 
 fn without_comments(mut text: &str) -> String {
@@ -59,14 +79,14 @@ fn item(text: &str) -> (String, u32) {
     (name.to_string(), number_of(number))
 }
 
-/// `#define CRSF_NAME NUMBER`; not those that take an argument.
+/// `#define CRSF_NAME NUMBER`; not those that take an argument, nor the attribute and the text of the version.
 fn macros(code: &str) -> Names {
     let defines = code
         .lines()
         .filter_map(|line| line.strip_prefix("#define CRSF_"));
     defines
         .filter_map(|define| define.split_once(' '))
-        .filter(|(name, _)| !name.contains('('))
+        .filter(|(name, _)| !name.contains('(') && !["MUST_USE", "VERSION"].contains(name))
         .map(|(name, number)| (name.to_string(), number_of(number)))
         .collect()
 }

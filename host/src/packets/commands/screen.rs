@@ -1,5 +1,5 @@
 //! After uf-crsf's src/packets/commands/screen.rs (Apache-2.0, see NOTICE).
-use crate::boundary::{self, FIELDS_SIZE, POPUP_SIZE, TEXT_SIZE};
+use crate::boundary::{self, POPUP_FIELDS_SIZE, POPUP_SIZE, TEXT_SIZE};
 use crate::error::{answer, CrsfParsingError};
 use crate::image::{self, Stored};
 
@@ -155,7 +155,7 @@ impl ScreenPopup {
     /// # Ok::<(), crsf::CrsfParsingError>(())
     /// ```
     pub fn fields(&self) -> Result<ScreenPopupFields, CrsfParsingError> {
-        let mut fields = [0; FIELDS_SIZE];
+        let mut fields = [0; POPUP_FIELDS_SIZE];
         answer(boundary::popup_fields(self.0.image(), &mut fields))?;
         Ok(image::fields(&fields))
     }

@@ -1,0 +1,159 @@
+//! "What a function refuses stands at the function, in the order in which it looks: the first that holds is the answer" (include/crsf.h).
+//! Each case has the refusal that it shows, and as many of those behind it as go together.
+mod header;
+mod laid;
+mod payloads;
+
+use crsf::boundary::{
+    self, ACK_SIZE, MAX_PAYLOAD, POPUP_FIELDS_SIZE, POPUP_SIZE, RECORD_SIZE, TEXT_SIZE,
+};
+use laid::{record, Laid};
+use payloads::{payload, M2, M3};
+
+type Record = [u8; RECORD_SIZE];
+type Fields = Laid<POPUP_FIELDS_SIZE>;
+
+fn read(payload: &[u8], room: usize) -> u32 {
+    boundary::read(payload, &mut vec![0; room])
+}
+
+#[test]
+fn read_looks_at_room_length_check_id_and_the_body() {
+    let damaged = |mut payload: Vec<u8>| {
+        *payload.last_mut().unwrap() ^= 1;
+        payload
+    };
+    let (least, most) = ([0; 3], vec![0; MAX_PAYLOAD + 1]);
+    assert_eq!(read(&least, RECORD_SIZE - 1), 3);
+    assert_eq!(read(&least, RECORD_SIZE), 1);
+    assert_eq!(read(&most, RECORD_SIZE), 1);
+    let bodies: [(u8, &[u8], u32); 10] = [
+        // the two ids, then another one
+        (0x03, &[], 4),
+        (0x13, &[], 4),
+        (0x02, &[], 2),
+        // no sub-command; an unknown one, which would have no values
+        (0x08, &[], 1),
+        (0x08, &[0x03], 2),
+        // half a frequency, a wrong one, a pulse with a wrong start colour and no stop colour
+        (0x08, &[0x02, 0x00], 1),
+        (0x08, &[0x02, 0x00, 0x00], 2),
+        (0x09, &[0x03, 0, 0, 0xB4, 0x00, 0x00], 2),
+        // an ACK with a wrong action: without its end, and with it
+        (0xFF, &[0x08, 0x02, 2, b'x'], 1),
+        (0xFF, &[0x08, 0x02, 2, b'x', 0], 2),
+    ];
+    for (id, body, number) in bodies {
+        let payload = payload(id, body);
+        assert_eq!(read(&payload, RECORD_SIZE), number, "{payload:02X?}");
+        assert_eq!(read(&damaged(payload), RECORD_SIZE), 2);
+    }
+    // a text without its end in a popup
+    assert_eq!(read(&payload(0x22, b"\x01Hi"), RECORD_SIZE), 1);
+}
+
+fn frequency(mhz: u16) -> Record {
+    let record = record("VTX", "VTX_SET_FREQUENCY");
+    record.put("RECORD_VALUES", &mhz.to_be_bytes()).image
+}
+
+fn pulse(hue: u16) -> Record {
+    let [high, low] = hue.to_be_bytes();
+    let values = [0, 0, high, low, 100, 100, 0, 0, 0, 0];
+    let record = record("LED", "LED_OVERRIDE_PULSE");
+    record.put("RECORD_VALUES", &values).image
+}
+
+#[test]
+fn write_looks_at_the_record_then_at_four_bytes_then_as_its_family_does() {
+    let write = |record: &[u8], room: usize| boundary::write(record, &mut vec![0; room]);
+    let made = frequency(5000);
+    let unmade = record("VTX", "VTX_SET_FREQUENCY").put("RECORD_LENGTH", &[1]);
+    let unknown = record("VTX", "VTX_SET_FREQUENCY").put("RECORD_SUB_COMMAND", &[0x03]);
+    let flag = record("SCREEN", "SCREEN_SELECTION_RETURN_VALUE").put("RECORD_VALUES", &[0, 2]);
+    for image in [&unmade.image[..], &unknown.image, &flag.image, &made[1..]] {
+        assert_eq!(write(image, 0), 5);
+    }
+    // VTX: numbers before room. M10
+    assert_eq!(write(&frequency(4999), 3), 3);
+    assert_eq!(write(&frequency(4999), 4), 2);
+    assert_eq!(write(&made, 6), 3);
+    assert_eq!(write(&made, 7), 7 << 8);
+    // ACK, likewise
+    let ack = record("ACK", "ACK_NO_SUB_COMMAND").put("RECORD_VALUES", &[0x08, 0x02, 2]);
+    assert_eq!(write(&ack.image, 3), 3);
+    assert_eq!(write(&ack.image, 4), 2);
+    // LED: room for the sub-command (1) and the time (2), then the colour's numbers, then its room (3)
+    assert_eq!(write(&pulse(360), 4 + 2), 3);
+    assert_eq!(write(&pulse(360), 4 + 3), 2);
+    assert_eq!(write(&pulse(359), 4 + 3), 3);
+    assert_eq!(write(&pulse(359), 4 + 9), 13 << 8);
+}
+
+#[test]
+fn edits_look_as_read_does_from_1_on_then_at_6_7_8() {
+    let edit = |payload: &[u8], field, number| boundary::edit(&mut payload.to_vec(), field, number);
+    assert_eq!(edit(&[0; 3], 0, 0), 1);
+    assert_eq!(edit(&payload(0x03, &[]), 0, 0), 4);
+    assert_eq!(edit(&M2, 24, 256), 6);
+    assert_eq!(edit(&payload(0x08, &[0x04, 0x80]), 24, 256), 6); // bit 7 of the pit byte
+    assert_eq!(edit(&M3, 24, 256), 7);
+    assert_eq!(edit(&M3, 20, 4999), 8);
+
+    let mut payload = M3;
+    assert_eq!(boundary::edit_list(&mut payload, &[0; 9], &mut []), 1);
+    assert_eq!(boundary::edit_list(&mut payload, &[0; 16], &mut [0]), 3);
+    assert_eq!(payload, M3);
+}
+
+#[test]
+fn texts_and_acks_look_at_room_first() {
+    let text = |bytes: &[u8], room: usize| boundary::text(bytes, &mut vec![0; room]);
+    assert_eq!(text(&[0; 52], TEXT_SIZE - 1), 3);
+    assert_eq!(text(&[0; 52], TEXT_SIZE), 2);
+    assert_eq!(text(&[1; 52], TEXT_SIZE), 1);
+    assert_eq!(text(&[1; 51], TEXT_SIZE), 0);
+
+    let ack = |action, bytes: &[u8], room| boundary::ack(8, 2, action, bytes, &mut vec![0; room]);
+    assert_eq!(ack(2, &[0; 53], ACK_SIZE - 1), 3);
+    assert_eq!(ack(2, &[0; 53], ACK_SIZE), 1);
+    assert_eq!(ack(2, &[1; 52], ACK_SIZE), 2);
+    assert_eq!(ack(1, &[0; 52], ACK_SIZE), 2);
+    assert_eq!(ack(1, &[1; 52], ACK_SIZE), 0);
+}
+
+/// A header of so many bytes, an empty info text: 4 bytes more.
+fn fields(header: usize) -> Fields {
+    Fields::new().text("POPUP_FIELDS_HEADER", &vec![b'h'; header])
+}
+
+#[test]
+fn popups_look_at_room_the_image_possible_values_and_each_field() {
+    let popup = |fields: &[u8], room: usize| boundary::popup(fields, &mut vec![0; room]);
+    let made = |fields: Fields| popup(&fields.image, POPUP_SIZE);
+    let alone = |fields: Fields| fields.put("POPUP_FIELDS_HAS_POSSIBLE_VALUES", &[1]);
+    let selection =
+        |fields: Fields| fields.named("POPUP_FIELDS_ADDITIONAL", "ADDITIONAL_SELECTION");
+
+    assert_eq!(popup(&[], POPUP_SIZE - 1), 3);
+    assert_eq!(popup(&fields(0).image[1..], POPUP_SIZE), 5);
+    assert_eq!(made(fields(0).put("POPUP_FIELDS_CLOSE", &[2])), 5);
+    assert_eq!(made(fields(0).put("POPUP_FIELDS_ADDITIONAL", &[3])), 5);
+    // possible values without additional data, in fields that have no room; and a text that is not made with them
+    let full = || fields(51).text("POPUP_FIELDS_INFO", b"i");
+    assert_eq!(made(alone(full()).put("POPUP_FIELDS_UNIT", &[1])), 2);
+    assert_eq!(made(alone(full()).put("POPUP_FIELDS_INFO", &[2])), 5);
+    // an empty label: behind a field without room, in front of its own
+    assert_eq!(made(selection(full())), 1);
+    assert_eq!(made(selection(fields(51))), 2);
+    assert_eq!(
+        made(selection(fields(51)).text("POPUP_FIELDS_LABEL", b"l")),
+        1
+    );
+    assert_eq!(made(fields(51)), 0);
+
+    let shown = |popup: &[u8], room: usize| boundary::popup_fields(popup, &mut vec![0; room]);
+    assert_eq!(shown(&[], POPUP_FIELDS_SIZE - 1), 3);
+    assert_eq!(shown(&[4], POPUP_FIELDS_SIZE), 5);
+    assert_eq!(shown(&[0; POPUP_SIZE], POPUP_FIELDS_SIZE), 5);
+}
