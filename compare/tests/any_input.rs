@@ -66,7 +66,7 @@ fn a_megabyte_of_payload_is_refused_and_one_of_buffer_is_written_at_its_front() 
     assert!(buffer[5..].iter().all(|byte| *byte == LENT));
 }
 
-/// "An image handed out needs at least its bytes: a shorter slice is 3, before all else; in a longer one the rest keeps its bytes."
+/// An image handed out needs its size: a shorter slice is 3, before all else; a longer one keeps its bytes behind the image.
 #[test]
 fn an_image_needs_its_bytes_and_no_more() {
     type Call = fn(&Side, &mut [u8]) -> u32;

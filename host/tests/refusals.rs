@@ -22,7 +22,7 @@ fn edited(payload: &[u8], field: impl Into<u32>, number: u32) -> CrsfParsingErro
     edit(&mut payload.to_vec(), field, number).unwrap_err()
 }
 
-/// "A command that stores no bytes has stored length 0 and zeros throughout": this disarm stores one, which no type here can hold.
+/// 01: "a command that stores no bytes has stored length 0 and zeros throughout": this disarm stores one, which no type here can hold.
 fn record_not_made() -> CrsfParsingError {
     let mut record = [0; RECORD_SIZE];
     record[2..4].copy_from_slice(&[0x01, 0x01]);

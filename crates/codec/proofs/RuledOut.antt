@@ -40,7 +40,7 @@ use Rattle.codec.proofs.reader.Reader.boolean as next-boolean
 use Rattle.codec.proofs.reader.Reader.string as next-string
 
 -- ---- refusal::number
--- the number of another row: no room is not "invalid payload", a family left behind is not an unknown one
+-- the number of another row: no room is not InvalidPayload, a family left behind is not an unknown one
 pub overflow-3 : refusalNumber BufferOverflow ≡ 3
 overflow-3 = refl
 

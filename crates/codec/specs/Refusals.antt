@@ -21,7 +21,7 @@ abbrev pub outcomeNumber : Outcome → ℕ
 outcomeNumber Accepted = 0
 outcomeNumber (Refused r) = refusalNumber r
 
--- the number of an answer, and its value or, "with each number", the blank one
+-- the number of an answer, and its value or, with each number, the blank one
 abbrev pub numberIn : {A : Type 0} → Answer A → ℕ
 numberIn (got a) = 0
 numberIn (refused n p) = n

@@ -13,7 +13,7 @@ use Rattle.crsf.specs.Word.{answerWord}
 abbrev pub writtenInto : Answer DirectCommands → ℕ → Answer ℕ
 writtenInto a room = andThen a (λ c. counted (stopWriting c room) (length (payloadOf c)))
 
--- "the first n bytes are the payload, the rest keep theirs"; "A refusal changes no lent byte."
+-- "the first n bytes are the payload, the rest keep theirs"; with each number "lent memory keeps its bytes"
 abbrev pub bufferLeft : Answer DirectCommands → List ℕ → List ℕ
 bufferLeft (got c) s = leaves (stopWriting c (length s)) (payloadOf c) s
 bufferLeft (refused n p) s = s

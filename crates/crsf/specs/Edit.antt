@@ -10,12 +10,12 @@ use Rattle.commands.specs.declared.DirectCommands.{DirectCommands}
 use Rattle.edits.specs.Edit.{editsIn, stopList, leftBy, numbersOf, bytesLeft}
 use Rattle.crsf.specs.Word.{word}
 
--- "number in bits 0-7 (0: accepted)", no count, place 0; "A refusal changes no lent byte."
+-- the number in its bits, no count, place 0; with each number "lent memory keeps its bytes"
 abbrev pub EditsOut : Answer DirectCommands → ℕ → List ℕ → List ℕ → Type 0
 EditsOut a r p p' = (r ≡ word (numberIn a) 0 0) × (p' ≡ bytesLeft p a)
 
--- "a list whose length is no multiple of 8 is 1, fewer answer bytes than edits is 3 (in this order, before all else)", and then no lent
--- byte changes; else 0, "each edit's number goes to its answer byte, and the list goes on after a refused edit"
+-- 1 or 3 for the list itself (docs/BEHAVIOUR.md, "Lists of edits"), and then no lent byte changes; else 0, and each edit's number goes to
+-- its answer byte
 abbrev pub ListsOut : List ℕ → ℕ → List ℕ → List ℕ → List ℕ → List ℕ → Type 0
 ListsOut es r p p' a a' =
     let stop : ℕ = stopList (length es) (length a) in

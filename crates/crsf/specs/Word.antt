@@ -7,7 +7,7 @@ use lib.Dec.{ltb}
 use Rattle.codec.specs.Pick.{pick}
 use Rattle.codec.specs.Sheet.{Answer, got, refused}
 
--- "number in bits 0-7 (0: accepted), count in bits 8-15, place in bits 16-31"
+-- the number in bits 0-7 (0: accepted), the count in bits 8-15, the place in bits 16-31, as include/crsf.h has it
 abbrev pub word : ℕ → ℕ → ℕ → ℕ
 word number count place = number % 256 + count % 256 * 256 + place % 65536 * 65536
 
@@ -15,11 +15,11 @@ abbrev pub answerWord : Answer ℕ → ℕ
 answerWord (got count) = word 0 count 0
 answerWord (refused number place) = word number 0 place
 
--- "An image handed out needs at least its bytes: a shorter slice is 3, before all else"
+-- an image handed out needs its size: a shorter slice is 3, before all else (docs/BEHAVIOUR.md, "The C boundary")
 abbrev pub handedOut : {A : Type 0} → ℕ → ℕ → Answer A → Answer A
 handedOut size room a = pick (ltb room size) (refused 3 0) a
 
--- "in a longer one the rest keeps its bytes"; "A refusal changes no lent byte."
+-- a longer slice keeps its bytes behind the image; with each number "lent memory keeps its bytes"
 abbrev pub imageLeft : {A : Type 0} → (A → List ℕ) → Answer A → List ℕ → List ℕ
 imageLeft image (got a) s = sets s 0 (image a)
 imageLeft image (refused n p) s = s

@@ -1,7 +1,7 @@
--- "Take a command that the writer accepts, the bytes it wrote and any list of edits (a field number and a new number each). After each
--- edit the bytes are exactly those the writer makes afresh from the command with the accepted edits so far. An edit is refused exactly
--- when the command has no such field or the number is out of range. Only the bytes holding the field, and the check byte, may differ."
--- Assumes nothing.
+-- Demand 3 (docs/BEHAVIOUR.md, "The demands"): take a command that the writer accepts, the bytes it wrote and any list of edits (a field
+-- number and a new number each). After each edit the bytes are exactly those the writer makes afresh from the command with the accepted
+-- edits so far. An edit is refused exactly when the command has no such field or the number is out of range. Only the bytes holding the
+-- field, and the check byte, may differ. Assumes nothing.
 use Prim.Native.Nat.{ℕ, _+_, _-_, _*_, _%_, _^_, _<_, _≤_}
 use mathlib.Core.Bool.{Bool, true, false}
 use mathlib.Core.List.{List, [], _∷_}

@@ -1,4 +1,4 @@
--- "The command before it, with that one item equal to the new number and every other item as it was": for each of two fields of a
+-- 01: "the command before it, with that one item equal to the new number and every other item as it was": for each of two fields of a
 -- command, setting one leaves what the other reads. Assumes nothing.
 use Prim.Native.Nat.{ℕ, zero, suc, _<_}
 use mathlib.Core.Bool.{Bool, true, false}

@@ -1,5 +1,5 @@
--- What is demanded of a list of edits, in words of the record: the command so far, which edits are refused, which bytes hold a field.
--- Assumes nothing.
+-- What is demanded of a list of edits (docs/BEHAVIOUR.md, "The demands"), in words of the record: the command so far, which edits are
+-- refused, which bytes hold a field. Assumes nothing.
 use Prim.Native.Nat.{ℕ, _+_, _-_, _*_}
 use mathlib.Core.Bool.{Bool, true, false}
 use mathlib.Core.Path.{_≡_}
@@ -16,7 +16,7 @@ use Rattle.edits.specs.Fields.{Spot, spot}
 use Rattle.edits.specs.Record.{itemsIn, valuesIn}
 use Rattle.edits.specs.Edit.{Edit, edit, fieldAt, spotOf, setField, editCommand, bytesLeft}
 
--- "the command with the accepted edits so far"
+-- the command with the accepted edits so far
 abbrev pub withEdit : DirectCommands → ℕ → ℕ → DirectCommands
 withEdit c f n = valueIn c (setField c f n)
 
@@ -34,7 +34,7 @@ readsBy c a = andThen a (λ s. andThen (fieldAt c s) (λ d. got (numberAt c s)))
 abbrev pub reads : DirectCommands → ℕ → Answer ℕ
 reads c f = readsBy c (spotOf c f)
 
--- "An edit is refused exactly when the command has no such field or the number is out of range."
+-- an edit is refused exactly when the command has no such field (7) or the number is out of range (8)
 abbrev pub named : DirectCommands → ℕ → Answer Field
 named c f = andThen (spotOf c f) (λ s. fieldAt c s)
 
@@ -51,7 +51,7 @@ numbersFor c (edit f n ∷ es) = judged (named c f) n ∷ numbersFor (withEdit c
 abbrev pub holdsBit : ℕ → ℕ → ℕ → ℕ → Bool
 holdsBit w low b q = pick (ltb low (8 * (w - q))) (ltb (8 * (w - (q + 1))) (low + b)) false
 
--- place k is one of the bytes "holding the field": the item of w bytes begins at a place
+-- place k is one of the bytes that hold the field: the item of w bytes begins at a place
 abbrev pub holdsIn : ℕ → ℕ → ℕ → Field → ℕ → Bool
 holdsIn at w low (field b lo hi) k = pick (leb at k) (pick (ltb k (at + w)) (holdsBit w low b (k - at)) false) false
 
@@ -63,7 +63,7 @@ abbrev pub holdsSpot : DirectCommands → Answer Spot → ℕ → Bool
 holdsSpot c (got (spot i j)) k = holdsItem (placeOf (itemsIn c) (valuesIn c) i) (getD (itemsIn c) i (text 0 0)) j k
 holdsSpot c (refused n p) k = false
 
--- "Only the bytes holding the field, and the check byte, may differ."
+-- only the bytes that hold the field, and the check byte, may differ
 abbrev pub OnlyThere : DirectCommands → ℕ → List ℕ → List ℕ → Type 0
 OnlyThere c f p p' =
     (length p' ≡ length p)

@@ -71,7 +71,7 @@ abbrev pub bytesAfter : List ℕ → List Edit → List ℕ
 bytesAfter p [] = p
 bytesAfter p (edit f n ∷ es) = bytesAfter (bytesLeft p (editCommand p f n)) es
 
--- "An edit in a list is 8 bytes, field then number, 4 each": so many of them
+-- an edit in a list is 8 bytes, field then number, 4 each (docs/BEHAVIOUR.md, "Lists of edits"): so many of them
 abbrev pub editsFrom : ℕ → List ℕ → List Edit
 editsFrom zero s = []
 editsFrom (suc k) s = edit (numberOf (take 4 s)) (numberOf (take 4 (drop 4 s))) ∷ editsFrom k (drop 8 s)
@@ -79,7 +79,7 @@ editsFrom (suc k) s = edit (numberOf (take 4 s)) (numberOf (take 4 (drop 4 s))) 
 abbrev pub editsIn : List ℕ → List Edit
 editsIn s = editsFrom (length s / 8) s
 
--- "a list whose length is no multiple of 8 is 1, fewer answer bytes than edits is 3 (in this order, before all else)"
+-- a list whose length is no multiple of 8 is 1, then fewer answer bytes than edits is 3, both before all else
 abbrev pub stopList : ℕ → ℕ → ℕ
 stopList n room = pick (eqb (n % 8) 0) (pick (ltb room (n / 8)) 3 0) 1
 
@@ -87,7 +87,7 @@ abbrev pub leftBy : ℕ → List ℕ → List Edit → List ℕ
 leftBy zero p es = bytesAfter p es
 leftBy (suc k) p es = p
 
--- "each edit's number goes to its answer byte, and the list goes on after a refused edit"
+-- each edit's number goes to its answer byte, and the list goes on after a refused edit
 abbrev pub ListIs : List ℕ → ℕ → List ℕ → List ℕ → List ℕ → List ℕ → Type 0
 ListIs es r p p' a a' =
     let stop : ℕ = stopList (length es) (length a) in

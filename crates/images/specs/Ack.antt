@@ -1,4 +1,4 @@
--- The C boundary's image of an ACK. Assumes nothing.
+-- The C boundary's image of an ACK (include/crsf.h). Assumes nothing.
 use Prim.Native.Nat.{ℕ}
 use mathlib.Core.List.{List, [], _∷_}
 use lib.ListN.{length, take, getD}
@@ -7,7 +7,7 @@ use Rattle.families.specs.Ack.{ackOf}
 use Rattle.families.specs.declared.ack.CommandAck.{CommandAck}
 use Rattle.images.specs.Text.{stored}
 
--- "ACK | 56 | command id, sub id, action, length, 52 bytes": n bytes of information, stored in b
+-- 56 bytes: command id, sub id, action, length, 52 bytes; n bytes of information, stored in b
 abbrev pub ackImage : CommandAck → ℕ → List ℕ → List ℕ
 ackImage a n b = a .«command_id» ∷ a .«sub_command_id» ∷ a .action ∷ stored n (take 52 b)
 

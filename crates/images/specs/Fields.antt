@@ -1,4 +1,4 @@
--- The C boundary's image of a popup's fields. Assumes nothing.
+-- The C boundary's image of a popup's fields (include/crsf.h). Assumes nothing.
 use Prim.Native.Nat.{ℕ, _+_}
 use mathlib.Core.Bool.{Bool, false}
 use mathlib.Core.List.{List, _∷_, _++_}
@@ -13,14 +13,14 @@ use Rattle.families.specs.declared.screen.ScreenAdditionalData.the-variants.{Ab
 use Rattle.families.specs.declared.screen.ScreenPopupFields.{ScreenPopupFields}
 use Rattle.images.specs.Text.{textImage}
 
--- "additional (0 absent, 1 Empty, 2 selection)"
+-- additional data: 0 absent, 1 Empty, 2 selection
 abbrev pub kindByte : ScreenAdditionalData → ℕ
 kindByte Absent = 0
 kindByte Empty = 1
 kindByte Selection = 2
 
--- "popup fields | 268 | header text, info text (52 each), timeout, close, additional .., label text, value, min, max, default, unit
--- text, possible values present (0 or 1), possible values text"
+-- 268 bytes: header text, info text (52 each), timeout, close, additional data, label text, value, min, max, default, unit text,
+-- possible values present (0 or 1), possible values text
 abbrev pub fieldsImage : ScreenPopupFields → List ℕ
 fieldsImage f =
     textImage (f .header)
@@ -65,7 +65,7 @@ fieldsAt s = record {
 abbrev pub known : ℕ → ℕ → ℕ → Bool
 known close kind present = pick (leb close 1) (pick (leb kind 2) (leb present 1) false) false
 
--- "another length, or .. the image of no record (.. a flag byte or kind out of range ..), is 5"
+-- another length is 5, and so is a flag or kind out of range
 abbrev pub fieldsFrom : List ℕ → Answer ScreenPopupFields
 fieldsFrom s =
     pick (eqb (length s) 268)

@@ -1,4 +1,4 @@
--- The C boundary's image of a popup. Assumes nothing.
+-- The C boundary's image of a popup (include/crsf.h). Assumes nothing.
 use Prim.Native.Nat.{ℕ}
 use mathlib.Core.List.{List}
 use lib.ListN.{length, drop, getD}
@@ -8,10 +8,10 @@ use Rattle.codec.specs.Sheet.{Answer, got, refused}
 use Rattle.families.specs.declared.screen.ScreenPopup.{ScreenPopup}
 use Rattle.images.specs.Text.{stored}
 
--- "popup | 56 | length, 55 bytes"
+-- 56 bytes: length, 55 bytes
 abbrev pub popupImage : ScreenPopup → List ℕ
 popupImage q = stored (q .len) (q .bytes)
 
--- "An image handed in that has another length .. is 5"
+-- another length is 5
 abbrev pub popupFrom : List ℕ → Answer ScreenPopup
 popupFrom s = pick (eqb (length s) 56) (got (record { len = getD s 0 0; bytes = drop 1 s })) (refused 5 0)

@@ -1,4 +1,4 @@
--- The C boundary's image of a text. Assumes nothing.
+-- The C boundary's image of a text (include/crsf.h). Assumes nothing.
 use Prim.Native.Nat.{ℕ, _%_}
 use mathlib.Core.List.{List, _∷_}
 use Rattle.families.specs.Text.{textOf}
@@ -8,7 +8,7 @@ use Rattle.families.specs.declared.text.CommandString.{CommandString}
 abbrev pub stored : ℕ → List ℕ → List ℕ
 stored n b = n % 256 ∷ b
 
--- "text | 52 | length, 51 bytes"
+-- 52 bytes: length, 51 bytes
 abbrev pub textImage : CommandString → List ℕ
 textImage t = stored (t .len) (t .bytes)
 

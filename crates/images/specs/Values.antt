@@ -29,7 +29,7 @@ use Rattle.families.specs.declared.ack.CommandAck.{CommandAck}
 use Rattle.families.specs.declared.payload.CommandPayload.{CommandPayload}
 use Rattle.families.specs.declared.payload.CommandPayload.the-variants.{Fc, Osd, Vtx, Led, General, Crossfire, FlowControl, Screen, Ack}
 
--- "sub-command (0 for ACK); 10 bytes of values, each at its own type's width in the order of 01's sheet .., zeros after"
+-- the sub-command, 0 for an ACK; 10 bytes of values, each at its own type's width in the order of 01's sheet, zeros after
 abbrev pub laid : ℕ → List ℕ → List ℕ
 laid sub vs = sub ∷ padded 10 vs
 
@@ -40,7 +40,7 @@ fcLaid ScaleChannel = laid 0x02 []
 abbrev pub osdLaid : OsdCommand → List ℕ
 osdLaid c = laid 0x01 (c .buttons ∷ [])
 
--- "pit: mode, control, switch, 1 each"
+-- pit byte: mode, control, switch, 1 each
 abbrev pub vtxLaid : VtxCommand → List ℕ
 vtxLaid (SetFrequency f) = laid 0x02 (bytesOf 2 f)
 vtxLaid (EnablePitModeOnPowerUp mode control switch) = laid 0x04 (bit mode ∷ control ∷ switch ∷ [])
@@ -48,7 +48,7 @@ vtxLaid PowerUpFromPitMode = laid 0x05 []
 vtxLaid (SetDynamicPower p) = laid 0x06 (p ∷ [])
 vtxLaid (SetPower p) = laid 0x08 (p ∷ [])
 
--- "a colour: hue 2, saturation 1, value 1"
+-- a colour: hue 2, saturation 1, value 1
 abbrev pub colorBytes : LedColor → List ℕ
 colorBytes c = bytesOf 2 (c .hue) ++ c .saturation ∷ c .value ∷ []
 
@@ -59,7 +59,7 @@ ledLaid (OverridePulse t a b) = laid 0x03 (bytesOf 2 t ++ (colorBytes a ++ color
 ledLaid (OverrideBlink t a b) = laid 0x04 (bytesOf 2 t ++ (colorBytes a ++ colorBytes b))
 ledLaid (OverrideShift t c) = laid 0x05 (bytesOf 2 t ++ colorBytes c)
 
--- "a flag 1"
+-- a flag: 1
 abbrev pub generalLaid : GeneralCommand → List ℕ
 generalLaid (SpeedProposal port baud) = laid 0x70 (port ∷ bytesOf 4 baud)
 generalLaid (SpeedProposalResponse port accepted) = laid 0x71 (port ∷ bit accepted ∷ [])
@@ -84,7 +84,7 @@ abbrev pub screenLaid : ScreenCommand → List ℕ
 screenLaid PopupMessageStart = laid 0x01 []
 screenLaid (SelectionReturnValue value response) = laid 0x02 (value ∷ bit response ∷ [])
 
--- "ACK: command id, sub id, action"
+-- ACK: command id, sub id, action
 abbrev pub ackLaid : CommandAck → List ℕ
 ackLaid a = laid 0 (a .«command_id» ∷ a .«sub_command_id» ∷ a .action ∷ [])
 

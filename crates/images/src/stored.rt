@@ -6,7 +6,7 @@ ghost use lib.Seq.{sets};
 ghost use Rattle.codec.specs.Writing.{putAt};
 ghost use Rattle.images.specs.Text.{stored};
 
-// "text | 52 | length, 51 bytes"
+// A text's image: length, 51 bytes.
 pub const TEXT_SIZE: usize = 52;
 
 // At a place that has room for them.
