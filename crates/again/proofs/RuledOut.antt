@@ -14,10 +14,10 @@ use Rattle.commands.proofs.Examples.{disarm, m1, m1-read}
 use Rattle.commands.proofs.Known.{read-short}
 use Rattle.commands.proofs.Forth.{read-writable}
 use Rattle.commands.proofs.Promised.{payload-laid}
-use Rattle.again.specs.Again.{Again}
+use Rattle.images.specs.Word.{WritesOut}
 
 -- a refused payload changes no byte
-pub again-refused-keeps : Again (readCommand []) 1 (7 ∷ 8 ∷ []) (7 ∷ 8 ∷ [])
+pub again-refused-keeps : WritesOut (readCommand []) 1 (7 ∷ 8 ∷ []) (7 ∷ 8 ∷ [])
 again-refused-keeps = rw (read-short [] (omega arith)) (refl, refl)
 
 -- M1 again: the count stands in bits 8-15, and the byte behind keeps its own
@@ -31,5 +31,5 @@ m1-fits =
     let k : length (payloadOf disarm) ≤ 6 = subst (λ (p : List ℕ). length p ≤ 6) (sym m1-laid) (omega arith) in
     read-writable m1 disarm y m1-read .1 .1 6 k
 
-pub again-m1 : Again (readCommand m1) 0x500 (replicate 6 7) (m1 ++ 7 ∷ [])
+pub again-m1 : WritesOut (readCommand m1) 0x500 (replicate 6 7) (m1 ++ 7 ∷ [])
 again-m1 = rw (m1-read, m1-fits, m1-laid) (refl, refl)

@@ -62,7 +62,13 @@ item-back (packed w fs) v post s h =
     let l = length-bytesOf w n in
     let t = both (leb (sum (widths fs)) (8 * w)) (soundFields fs) s in
     let k : w ≤ length (bytesOf w n ++ post) = rw (length-append, l) (omega arith) in
-    rw (le-ltb (length (bytesOf w n ++ post)) w k, take-at (bytesOf w n) post w l, number-bytes w n (fits-bytes w fs v s h), split-join (widths fs) v (fits fs v (t .1) h), h)
+    rw (
+      le-ltb (length (bytesOf w n ++ post)) w k,
+      take-at (bytesOf w n) post w l,
+      number-bytes w n (fits-bytes w fs v s h),
+      split-join (widths fs) v (fits fs v (t .1) h),
+      h,
+    )
 item-back (text least most) v post s h =
     let u = passed (shorter least v) (pick (leb (length v) most) (nonzero v) false) h in
     let t = both (leb (length v) most) (nonzero v) (u .1) in

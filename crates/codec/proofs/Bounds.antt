@@ -20,7 +20,8 @@ empty-text s at h e =
     rw (before-zero s at h e, lt-ltb 0 (length (drop at s)) l)
 
 -- a text that does not begin with 00 is not empty
-pub label-text : (most : ℕ) (s : List ℕ) (at : ℕ) → at < length s → (getD s at 0 ≡ 0 → ⊥) → readItem (text 1 most) (drop at s) ≡ readItem (text 0 most) (drop at s)
+pub label-text : (most : ℕ) (s : List ℕ) (at : ℕ) → at < length s → (getD s at 0 ≡ 0 → ⊥) → readItem (text 1 most)
+    (drop at s) ≡ readItem (text 0 most) (drop at s)
 unfolding readItem
 label-text most s at h e = rw (before-more s at h e)
 

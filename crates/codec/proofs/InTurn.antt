@@ -7,15 +7,14 @@ use native.Mathlib.Omega.{arith}
 use lib.ListN.{length}
 use lib.Seq.{sets}
 use lib.Dec.{ltb}
-use borrow.Author.Tests.{le-ltb, lt-ltb, ltb-false}
+use borrow.Author.Tests.{le-ltb, ltb-false}
 use Rattle.codec.specs.Pick.{pick}
 use Rattle.codec.specs.Digits.{bytesOf}
 use Rattle.codec.specs.Sheet.{Item, Row, said, word, got, refused}
 use Rattle.codec.specs.Writing.{okItem, itemsOf, writeItems, writeBody, counted, stopRoom, stopEach, stopInOrder, stopValuesFirst}
 use Rattle.codec.specs.Refusals.{refusalNumber}
-use Rattle.codec.specs.Told.{Writes}
+use Rattle.codec.specs.Told.{Writes, WritesInOrder}
 use Rattle.codec.specs.declared.refusal.Refusal.{Refusal}
-use Rattle.codec.specs.declared.refusal.Refusal.the-variants.{BufferOverflow}
 use Rattle.codec.specs.declared.writer.Written.the-variants.{Count, Refused as RefusedWrite}
 use Rattle.codec.proofs.Items.{alone, ltb-zero}
 use Rattle.codec.proofs.Stops.{room-again}
@@ -76,31 +75,35 @@ values-all rs sub n m i v o s s' e f g h p =
     writes-all (stopValuesFirst rs (length s) (said sub (v ∷ []))) m (writeBody rs (said sub (v ∷ []))) s s'
     (values-one rs sub (length s) n i v e f ∙ k .0) (k .1 .1 ∙ sym f) p
 
+-- ---- items behind so many bytes that need room first, the first of them judged with those bytes: it stops the whole, or what follows decides
+pub first-stops : (o : Bool) (room before end x stop : ℕ) (r : Refusal) → stop ≡ pick (ltb room before) 3 (pick o (pick (ltb room end) 3 x) 2)
+    → refused (refusalNumber r) 0 ≡ counted (pick (ltb room before) 3 (pick o (stopRoom room end) 2)) end → stop ≡ refusalNumber r
+first-stops o room before end x stop r e h = e ∙ by (ltb room before) h
+  where
+    by : (t : Bool) → refused (refusalNumber r) 0 ≡ counted (pick t 3 (pick o (stopRoom room end) 2)) end
+        → pick t 3 (pick o (pick (ltb room end) 3 x) 2) ≡ refusalNumber r
+    by true g = cc
+    by false g = item-stops o room end x r g
+
+pub first-goes : (o : Bool) (room before end x stop n : ℕ) → stop ≡ pick (ltb room before) 3 (pick o (pick (ltb room end) 3 x) 2)
+    → got n ≡ counted (pick (ltb room before) 3 (pick o (stopRoom room end) 2)) end → (stop ≡ x) × ((end ≤ room) × (n ≡ end))
+first-goes o room before end x stop n e h = let k = by (ltb room before) h in (e ∙ k .0, k .1)
+  where
+    by : (t : Bool) → got n ≡ counted (pick t 3 (pick o (stopRoom room end) 2)) end
+        → (pick t 3 (pick o (pick (ltb room end) 3 x) 2) ≡ x) × ((end ≤ room) × (n ≡ end))
+    by true g = let z : _≡_ {A = ℕ} 0 1 = cc in absurd (omega arith)
+    by false g = item-goes o room end x n g
+
 -- "sub-command and time need room": then the items that follow decide
-timed-stop : (rs : List Row) (room sub t : ℕ) (is : List Item) (vs : List (List ℕ)) → itemsOf rs sub ≡ word ∷ is → t < 65536
+pub timed-stop : (rs : List Row) (room sub t : ℕ) (is : List Item) (vs : List (List ℕ)) → itemsOf rs sub ≡ word ∷ is → t < 65536
     → stopInOrder rs room (said sub ((t ∷ []) ∷ vs)) ≡ pick (ltb room 3) 3 (stopEach 3 room 3 is vs)
 timed-stop rs room sub t is vs e h =
     rw (e, ltb-zero t, le-ltb 65535 t (omega arith), room-again room 1 3 (stopEach 3 room 3 is vs) (omega arith))
 
-pub timed-short : (rs : List Row) (sub t : ℕ) (is : List Item) (vs : List (List ℕ)) (s : List ℕ) → itemsOf rs sub ≡ word ∷ is → t < 65536
-    → length s < 3
-    → Writes (stopInOrder rs (length s) (said sub ((t ∷ []) ∷ vs))) (writeBody rs (said sub ((t ∷ []) ∷ vs))) (RefusedWrite BufferOverflow) s s
-timed-short rs sub t is vs s e h l =
-    writes-stop (stopInOrder rs (length s) (said sub ((t ∷ []) ∷ vs))) (writeBody rs (said sub ((t ∷ []) ∷ vs))) s BufferOverflow
-    (timed-stop rs (length s) sub t is vs e h ∙ rw (lt-ltb (length s) 3 l))
-
-pub timed-stops : (rs : List Row) (sub t : ℕ) (is : List Item) (vs : List (List ℕ)) (s : List ℕ) (r : Refusal) → itemsOf rs sub ≡ word ∷ is → t < 65536
-    → 3 ≤ length s → stopEach 3 (length s) 3 is vs ≡ refusalNumber r
-    → Writes (stopInOrder rs (length s) (said sub ((t ∷ []) ∷ vs))) (writeBody rs (said sub ((t ∷ []) ∷ vs))) (RefusedWrite r) s s
-timed-stops rs sub t is vs s r e h l g =
-    writes-stop (stopInOrder rs (length s) (said sub ((t ∷ []) ∷ vs))) (writeBody rs (said sub ((t ∷ []) ∷ vs))) s r
-    (timed-stop rs (length s) sub t is vs e h ∙ rw (le-ltb (length s) 3 l) g)
-
-pub timed-all : (rs : List Row) (sub t n : ℕ) (is : List Item) (vs : List (List ℕ)) (s s' : List ℕ) → itemsOf rs sub ≡ word ∷ is → t < 65536
-    → 3 ≤ length s → stopEach 3 (length s) 3 is vs ≡ 0 → n ≡ 3 + length (writeItems is vs) → s' ≡ sets s 0 (sub ∷ (bytesOf 2 t ++ writeItems is vs))
-    → Writes (stopInOrder rs (length s) (said sub ((t ∷ []) ∷ vs))) (writeBody rs (said sub ((t ∷ []) ∷ vs))) (Count n) s s'
-timed-all rs sub t n is vs s s' e h l g f p =
+pub timed-all : (rs : List Row) (sub t n : ℕ) (is : List Item) (vs : List (List ℕ)) (s s' : List ℕ) → itemsOf rs sub ≡ word ∷ is
+    → stopInOrder rs (length s) (said sub ((t ∷ []) ∷ vs)) ≡ 0 → n ≡ 3 + length (writeItems is vs)
+    → s' ≡ sets s 0 (sub ∷ (bytesOf 2 t ++ writeItems is vs)) → WritesInOrder rs (said sub ((t ∷ []) ∷ vs)) (Count n) s s'
+timed-all rs sub t n is vs s s' e g f p =
     let w : writeBody rs (said sub ((t ∷ []) ∷ vs)) ≡ sub ∷ (bytesOf 2 t ++ writeItems is vs) = rw (e, alone t) in
     let k : length (writeBody rs (said sub ((t ∷ []) ∷ vs))) ≡ 3 + length (writeItems is vs) = ap length w ∙ omega arith in
-    writes-all (stopInOrder rs (length s) (said sub ((t ∷ []) ∷ vs))) n (writeBody rs (said sub ((t ∷ []) ∷ vs))) s s'
-    (timed-stop rs (length s) sub t is vs e h ∙ rw (le-ltb (length s) 3 l) g) (f ∙ sym k) (rw w p)
+    writes-all _ n (writeBody rs (said sub ((t ∷ []) ∷ vs))) s s' g (f ∙ sym k) (rw w p)

@@ -27,7 +27,8 @@ item-short w fs s at p h = rw (lt-ltb (length (drop at s)) w (rw length-drop (om
 abbrev pub judged : List Field → ℕ → Answer (List ℕ)
 judged fs n = pick (within fs (split (widths fs) n)) (got (split (widths fs) n)) (refused 2 0)
 
-pub item-is : (w : ℕ) (fs : List Field) (s : List ℕ) (at n : ℕ) → at + w ≤ length s → n ≡ numberOf (take w (drop at s)) → readItem (packed w fs) (drop at s) ≡ judged fs n
+pub item-is : (w : ℕ) (fs : List Field) (s : List ℕ) (at n : ℕ) → at + w ≤ length s → n ≡ numberOf (take w (drop at s))
+    → readItem (packed w fs) (drop at s) ≡ judged fs n
 unfolding readItem
 item-is w fs s at n h e = rw (le-ltb (length (drop at s)) w (rw length-drop (omega arith)), ← e)
 

@@ -65,14 +65,19 @@ module _ {M : Type 1} (𝓤 : URA M) (H : Heap 𝓤) (A : Atoms 𝓤) (W : Given
 
     pub lends-local : (x : R .Denot) → ent 𝓤 (⋆ 𝓤 H A (‵ (partAt R fullShare x l 0) ∷ ‵ (flft κ q) ∷ [])) (H .⇛ (ex 𝓤 (λ (ν : ℕ). ex 𝓤 (Lent x ν))))
     lends-local x =
-        qed W (‵ (partAt R fullShare x l 0) ∷ ‵ (flft κ q) ∷ []) ∵ updating ! $ move ! (1 ∷ []) $ use1 W (‵ (flft κ with-loan) ⊛ ‵ (flft κ beside)) (W .lfts .lft-split κ q) $ split ! $
-        lft-new ! tt (λ ν. use2 W (‵ (flft (ν ∷ κ) with-loan) ⊛ raw (Rest 𝓤 H A W ν with-loan)) (within-token 𝓤 H A W ν κ with-loan) $ split ! $ move ! (3 ∷ []) $
-        use1 W (later (some (λ (δ : GName). ‵ (MutRef (named 0) (ν ∷ κ) R .own (loan δ x) (vptr l 0 ∷ [])) ⊛ ‵ (flent (ν ∷ κ) (Body (mem R) l 0 δ))))) (lends-ref 𝓤 H A W R (named 0) (ν ∷ κ) x l 0) $ await ! tt $ pick ! (λ δ. split ! $
+        qed W (‵ (partAt R fullShare x l 0) ∷ ‵ (flft κ q) ∷ []) ∵ updating ! $ move ! (1 ∷ []) $
+        use1 W (‵ (flft κ with-loan) ⊛ ‵ (flft κ beside)) (W .lfts .lft-split κ q) $ split ! $
+        lft-new ! tt (λ ν. use2 W (‵ (flft (ν ∷ κ) with-loan) ⊛ raw (Rest 𝓤 H A W ν with-loan))
+        (within-token 𝓤 H A W ν κ with-loan) $ split ! $ move ! (3 ∷ []) $
+        use1 W (later (some (λ (δ : GName). ‵ (MutRef (named 0) (ν ∷ κ) R .own (loan δ x) (vptr l 0 ∷ [])) ⊛ ‵
+        (flent (ν ∷ κ) (Body (mem R) l 0 δ))))) (lends-ref 𝓤 H A W R (named 0) (ν ∷ κ) x l 0) $ await ! tt $
+        pick ! (λ δ. split ! $
         -- [the loan; the lender's part; the token; the way back; the token beside]
         at-once ! $ show ! (λ (ν′ : ℕ). ex 𝓤 (Lent x ν′)) ν $ show ! (Lent x ν) δ $ move ! (0 ∷ 2 ∷ 4 ∷ 3 ∷ 1 ∷ []) $ done !))
 
     pub local-back : (y : R .Denot) (ν : ℕ) (δ : GName)
-        → ent 𝓤 (⋆ 𝓤 H A (‵ (fres δ (R .coded .code y)) ∷ (‵ (flft (ν ∷ κ) with-loan) ⊛ ‵ (flft κ beside)) ∷ raw (Kept ν δ) ∷ [])) (H .⇛ (⋆ 𝓤 H A (‵ (partAt R fullShare y l 0) ∷ ‵ (flft κ q) ∷ [])))
+        → ent 𝓤 (⋆ 𝓤 H A (‵ (fres δ (R .coded .code y)) ∷ (‵ (flft (ν ∷ κ) with-loan) ⊛ ‵ (flft κ beside)) ∷ raw
+        (Kept ν δ) ∷ [])) (H .⇛ (⋆ 𝓤 H A (‵ (partAt R fullShare y l 0) ∷ ‵ (flft κ q) ∷ [])))
     local-back y ν δ =
         qed W (‵ (fres δ (R .coded .code y)) ∷ (‵ (flft (ν ∷ κ) with-loan) ⊛ ‵ (flft κ beside)) ∷ raw (Kept ν δ) ∷ []) ∵ updating ! $ move ! (2 ∷ []) $
         use1 W (raw (Rest 𝓤 H A W ν with-loan) ⊛ ‵ (flent (ν ∷ κ) (Body (mem R) l 0 δ))) (id⊢ 𝓤 _) $ split ! $ move ! (3 ∷ []) $ split ! $ move ! (0 ∷ 2 ∷ []) $
@@ -103,7 +108,8 @@ module _ {M : Type 1} (𝓤 : URA M) (H : Heap 𝓤) (A : Atoms 𝓤) (W : Given
     to-new = (((κ, tt), (q, tt), tt, (s, tt), (sliceVal (s .ptr) (length (s .now)) ∷ [], tt)), tt)
 
     pub asks-new : ent 𝓤 (⋆ 𝓤 H A (‵ (flft κ q) ∷ ‵ Slice ∷ [])) (New .pre to-new)
-    asks-new = qed W (‵ (flft κ q) ∷ ‵ Slice ∷ []) ∵ nothing ! $ move ! (2 ∷ 0 ∷ []) $ fjoin ! $ nothing ! $ move ! (2 ∷ 0 ∷ []) $ join ! $ join ! $ frame ! $ done !
+    asks-new = qed W (‵ (flft κ q) ∷ ‵ Slice ∷ []) ∵ nothing ! $ move ! (2 ∷ 0 ∷ []) $ fjoin ! $ nothing ! $
+        move ! (2 ∷ 0 ∷ []) $ join ! $ join ! $ frame ! $ done !
 
     abbrev pub Made : Val → Reader → SProp 𝓤
     Made u r = guard 𝓤 (r .remaining ≡ s) (⋆ 𝓤 H A (‵ (R .own r (u ∷ [])) ∷ ‵ (flft κ q) ∷ []))
@@ -111,14 +117,24 @@ module _ {M : Type 1} (𝓤 : URA M) (H : Heap 𝓤) (A : Atoms 𝓤) (W : Given
     pub new-made : (u : Val) → ent 𝓤 (New .post to-new u) (H .⇛ (ex 𝓤 (Made u)))
     new-made u =
         qed W (raw (New .post to-new u) ∷ []) ∵ updating ! $
-        use1 W (later (some (λ (r : Reader). ((‵ (flft κ q) ⊛ ‵ ftrue) ⊛ ‵ (R .own r (u ∷ []))) ⊛ raw (ensured 𝓤 H A new.ended (new.clauses 𝓤 H A at-mem run) (κ, tt) (s, tt) tt r)))) (id⊢ 𝓤 _) $ await ! tt $ pick ! (λ r.
-        split ! $ move ! (1 ∷ []) $ use1 W (raw (fact 𝓤 (r .remaining ≡ s))) (exE 𝓤 _ (λ ws. snd∗ 𝓤 (sem 𝓤 H A (lasts new.ended (κ, tt) (s, tt) ws)) (fact 𝓤 (r .remaining ≡ s)))) $ heard ! (r .remaining ≡ s) (λ e. split ! $ split ! $ move ! (1 ∷ []) $ drop ! $
+        use1 W (later (some (λ (r : Reader). ((‵ (flft κ q) ⊛ ‵ ftrue) ⊛ ‵ (R .own r (u ∷ []))) ⊛ raw
+        (ensured 𝓤 H A new.ended (new.clauses 𝓤 H A at-mem run) (κ, tt) (s, tt) tt r)))) (id⊢ 𝓤 _) $ await ! tt $
+        pick ! (λ r.
+        split ! $ move ! (1 ∷ []) $
+        use1 W (raw (fact 𝓤 (r .remaining ≡ s)))
+        (exE 𝓤 _ (λ ws. snd∗ 𝓤 (sem 𝓤 H A (lasts new.ended (κ, tt) (s, tt) ws)) (fact 𝓤 (r .remaining ≡ s)))) $
+        heard ! (r .remaining ≡ s) (λ e. split ! $ split ! $ move ! (1 ∷ []) $ drop ! $
         -- [the token; what the reader owns]
         at-once ! $ show ! (Made u) r $ check ! e $ move ! (1 ∷ []) $ done !))
 
-  pub reader-slice : (r : Reader) (u : Val) → ent 𝓤 (sem 𝓤 H A (R .own r (u ∷ []))) (guard 𝓤 (u ∷ [] ≡ T′.lowered r ∷ []) (sem 𝓤 H A (ShrSlice (named 0) κ u8 .own (r .remaining) (sliceVal (r .remaining .ptr) (length (r .remaining .now)) ∷ []))))
+  pub reader-slice : (r : Reader) (u : Val) → ent 𝓤 (sem 𝓤 H A (R .own r (u ∷ [])))
+      (guard 𝓤 (u ∷ [] ≡ T′.lowered r ∷ [])
+      (sem 𝓤 H A (ShrSlice (named 0) κ u8 .own (r .remaining)
+      (sliceVal (r .remaining .ptr) (length (r .remaining .now)) ∷ []))))
   reader-slice r u =
-      qed W (‵ (R .own r (u ∷ [])) ∷ []) ∵ use1 W (given (u ∷ [] ≡ T′.lowered r ∷ []) (‵ (all-own (T.the-type α .parts) (T′.the-laws α) (r .remaining, tt)))) (own-open 𝓤 H A W (T.the-type α) (T′.the-laws α) (r .remaining, tt) u) $ learn ! (λ e.
+      qed W (‵ (R .own r (u ∷ [])) ∷ []) ∵ use1 W
+      (given (u ∷ [] ≡ T′.lowered r ∷ []) (‵ (all-own (T.the-type α .parts) (T′.the-laws α) (r .remaining, tt))))
+      (own-open 𝓤 H A W (T.the-type α) (T′.the-laws α) (r .remaining, tt) u) $ learn ! (λ e.
       fsplit ! $ move ! (1 ∷ []) $ drop ! $ check ! e $ done !)
 
   pub reader-in : (r : Reader) (u : Val) → ent 𝓤 (⋆ 𝓤 H A (‵ (holds u) ∷ ‵ (R .own r (u ∷ [])) ∷ [])) (sem 𝓤 H A (partAt R fullShare r l 0))
@@ -130,7 +146,9 @@ module _ {M : Type 1} (𝓤 : URA M) (H : Heap 𝓤) (A : Atoms 𝓤) (W : Given
   pub reader-out : (r : Reader) → ent 𝓤 (sem 𝓤 H A (partAt R fullShare r l 0)) (⋆ 𝓤 H A (‵ (holds (T′.lowered r)) ∷ ‵ (R .own r (T′.lowered r ∷ [])) ∷ []))
   unfolding partOf
   reader-out r =
-      qed W (‵ (partAt R fullShare r l 0) ∷ []) ∵ fpick ! (λ vs. fsplit ! $ spelt ! R (Is R) (shows 𝓤 H A R) (LL.vals (T.the-type α) (T′.the-laws α)) (LL.tells (T.the-type α) (T′.the-laws α)) fullShare r vs l 0 $
+      qed W (‵ (partAt R fullShare r l 0) ∷ []) ∵ fpick
+      ! (λ vs. fsplit ! $ spelt ! R (Is R) (shows 𝓤 H A R) (LL.vals (T.the-type α) (T′.the-laws α))
+      (LL.tells (T.the-type α) (T′.the-laws α)) fullShare r vs l 0 $
       use1 W (‵ (holds (T′.lowered r))) (W .laws .raw-at fullShare (T′.mir erased) l 0 (T′.lowered r)) $ done !)
 
   -- ---- lent to a method that takes an item (`Method.antt`)
@@ -151,32 +169,47 @@ module _ {M : Type 1} (𝓤 : URA M) (H : Heap 𝓤) (A : Atoms 𝓤) (W : Given
     abbrev pub Has : Val → Y .row .Denot → Reader → SProp 𝓤
     Has u n r′ = ⋆ 𝓤 H A (‵ (Y .row .own n (u ∷ [])) ∷ ‵ (holds (T′.lowered r′)) ∷ ‵ (R .own r′ (T′.lowered r′ ∷ [])) ∷ ‵ (flft κ q) ∷ [])
 
-    asked : (r : Reader) (ν : ℕ) (δ : GName) → ent 𝓤 (⋆ 𝓤 H A (‵ (MutRef (named 0) (ν ∷ κ) R .own (loan R δ r) (vptr l 0 ∷ [])) ∷ ‵ (flft (ν ∷ κ) with-loan) ∷ ‵ (flft κ beside) ∷ [])) (Method .pre (to-method r ν δ))
+    asked : (r : Reader) (ν : ℕ) (δ : GName)
+        → ent 𝓤 (⋆ 𝓤 H A (‵ (MutRef (named 0) (ν ∷ κ) R .own (loan R δ r) (vptr l 0 ∷ [])) ∷ ‵
+        (flft (ν ∷ κ) with-loan) ∷ ‵ (flft κ beside) ∷ [])) (Method .pre (to-method r ν δ))
     asked r ν δ =
         qed W (‵ (MutRef (named 0) (ν ∷ κ) R .own (loan R δ r) (vptr l 0 ∷ [])) ∷ ‵ (flft (ν ∷ κ) with-loan) ∷ ‵ (flft κ beside) ∷ []) ∵
         nothing ! $ move ! (1 ∷ 0 ∷ []) $ fjoin ! $
         -- [what the parameters own; the token of the loan; κ's token]
         nothing ! $ move ! (3 ∷ 0 ∷ []) $ join ! $ move ! (2 ∷ 0 ∷ []) $ join ! $ join ! $ frame ! $ done !
 
-    pub lends-method : (r : Reader) (u : Val) → ent 𝓤 (⋆ 𝓤 H A (‵ (holds u) ∷ ‵ (R .own r (u ∷ [])) ∷ ‵ (flft κ q) ∷ [])) (H .⇛ (ex 𝓤 (λ (ν : ℕ). ex 𝓤 (Asks r ν))))
+    pub lends-method : (r : Reader) (u : Val)
+        → ent 𝓤 (⋆ 𝓤 H A (‵ (holds u) ∷ ‵ (R .own r (u ∷ [])) ∷ ‵ (flft κ q) ∷ []))
+        (H .⇛ (ex 𝓤 (λ (ν : ℕ). ex 𝓤 (Asks r ν))))
     lends-method r u =
         qed W (‵ (holds u) ∷ ‵ (R .own r (u ∷ [])) ∷ ‵ (flft κ q) ∷ []) ∵ updating ! $ use2 W (‵ (partAt R fullShare r l 0)) (reader-in r u) $
         use2 W (later (some (λ (ν : ℕ). some (λ (δ : GName). raw (Lent R r ν δ))))) (lends-local R r) $ await ! tt $ pick ! (λ ν. pick ! (λ δ.
-        use1 W (‵ (MutRef (named 0) (ν ∷ κ) R .own (loan R δ r) (vptr l 0 ∷ [])) ⊛ (‵ (flft (ν ∷ κ) with-loan) ⊛ (‵ (flft κ beside) ⊛ raw (Kept R ν δ)))) (id⊢ 𝓤 _) $ split ! $ move ! (1 ∷ []) $ split ! $ move ! (1 ∷ []) $ split ! $
+        use1 W (‵ (MutRef (named 0) (ν ∷ κ) R .own (loan R δ r) (vptr l 0 ∷ [])) ⊛
+        (‵ (flft (ν ∷ κ) with-loan) ⊛ (‵ (flft κ beside) ⊛ raw (Kept R ν δ)))) (id⊢ 𝓤 _) $ split ! $
+        move ! (1 ∷ []) $ split ! $ move ! (1 ∷ []) $ split ! $
         -- [κ's token; what is kept; the token of the loan; the loan]
-        move ! (3 ∷ 2 ∷ 0 ∷ []) $ use3 W (raw (Method .pre (to-method r ν δ))) (asked r ν δ) $ at-once ! $ show ! (λ (ν′ : ℕ). ex 𝓤 (Asks r ν′)) ν $ show ! (Asks r ν) δ $ done !))
+        move ! (3 ∷ 2 ∷ 0 ∷ []) $ use3 W (raw (Method .pre (to-method r ν δ))) (asked r ν δ) $ at-once ! $
+        show ! (λ (ν′ : ℕ). ex 𝓤 (Asks r ν′)) ν $ show ! (Asks r ν) δ $ done !))
 
     pub method-back : (r : Reader) (ν : ℕ) (δ : GName) (u : Val)
-        → ent 𝓤 (⋆ 𝓤 H A (raw (Method .post (to-method r ν δ) u) ∷ raw (Kept R ν δ) ∷ [])) (H .⇛ (ex 𝓤 (λ (n : Y .row .Denot). ex 𝓤 (λ (r′ : Reader). guard 𝓤 (Took r n r′) (Has u n r′)))))
+        → ent 𝓤 (⋆ 𝓤 H A (raw (Method .post (to-method r ν δ) u) ∷ raw (Kept R ν δ) ∷ []))
+        (H .⇛ (ex 𝓤 (λ (n : Y .row .Denot). ex 𝓤 (λ (r′ : Reader). guard 𝓤 (Took r n r′) (Has u n r′)))))
     method-back r ν δ u =
         qed W (raw (Method .post (to-method r ν δ) u) ∷ raw (Kept R ν δ) ∷ []) ∵ updating ! $
-        use1 W (later (some (λ (n : Y .row .Denot). ((‵ (flft (ν ∷ κ) with-loan) ⊛ (‵ (flft κ beside) ⊛ ‵ ftrue)) ⊛ ‵ (Y .row .own n (u ∷ []))) ⊛ raw (ensured 𝓤 H A (method-ended Y) (method-says Y 𝓤 Says) (ν ∷ κ, (κ, tt)) (loan R δ r, tt) tt n)))) (id⊢ 𝓤 _) $ await ! tt $ pick ! (λ n.
-        split ! $ move ! (1 ∷ []) $ use1 W (some (λ (zs : Reader × Unit {0}). ‵ (lasts (method-ended Y) (ν ∷ κ, (κ, tt)) (loan R δ r, tt) zs) ⊛ raw (fact 𝓤 (Took r n (zs .0))))) (id⊢ 𝓤 _) $ pick ! (λ zs.
+        use1 W (later (some (λ (n : Y .row .Denot). ((‵ (flft (ν ∷ κ) with-loan) ⊛ (‵ (flft κ beside) ⊛ ‵ ftrue)) ⊛ ‵
+        (Y .row .own n (u ∷ []))) ⊛ raw (ensured 𝓤 H A (method-ended Y) (method-says Y 𝓤 Says) (ν ∷ κ, (κ, tt))
+        (loan R δ r, tt) tt n)))) (id⊢ 𝓤 _) $ await ! tt $ pick ! (λ n.
+        split ! $ move ! (1 ∷ []) $
+        use1 W (some (λ (zs : Reader × Unit {0}). ‵ (lasts (method-ended Y) (ν ∷ κ, (κ, tt)) (loan R δ r, tt) zs) ⊛
+        raw (fact 𝓤 (Took r n (zs .0))))) (id⊢ 𝓤 _) $ pick ! (λ zs.
         split ! $ move ! (1 ∷ []) $ heard ! (Took r n (zs .0)) (λ e. fsplit ! $ move ! (1 ∷ []) $ drop ! $
         -- [the last value; the tokens and the answer; what is kept]
         move ! (1 ∷ []) $ split ! $ split ! $ move ! (1 ∷ []) $ split ! $ move ! (1 ∷ []) $ drop ! $
         -- [κ's token; the token of the loan; the answer; the last value; what is kept]
-        move ! (1 ∷ 0 ∷ []) $ join ! $ move ! (2 ∷ 0 ∷ 3 ∷ []) $ use3 W (later (‵ (partAt R fullShare (zs .0) l 0) ⊛ ‵ (flft κ q))) (local-back R (zs .0) ν δ) $ await ! tt $ split ! $
+        move ! (1 ∷ 0 ∷ []) $ join ! $ move ! (2 ∷ 0 ∷ 3 ∷ []) $
+        use3 W (later (‵ (partAt R fullShare (zs .0) l 0) ⊛ ‵ (flft κ q))) (local-back R (zs .0) ν δ) $ await ! tt $
+        split ! $
         use1 W (‵ (holds (T′.lowered (zs .0))) ⊛ ‵ (R .own (zs .0) (T′.lowered (zs .0) ∷ []))) (reader-out (zs .0)) $ split ! $
-        at-once ! $ show ! (λ (m : Y .row .Denot). ex 𝓤 (λ (r′ : Reader). guard 𝓤 (Took r m r′) (Has u m r′))) n $ show ! (λ (r′ : Reader). guard 𝓤 (Took r n r′) (Has u n r′)) (zs .0) $ check ! e $
+        at-once ! $ show ! (λ (m : Y .row .Denot). ex 𝓤 (λ (r′ : Reader). guard 𝓤 (Took r m r′) (Has u m r′))) n $
+        show ! (λ (r′ : Reader). guard 𝓤 (Took r n r′) (Has u n r′)) (zs .0) $ check ! e $
         move ! (3 ∷ []) $ done !)))

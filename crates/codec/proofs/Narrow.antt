@@ -68,7 +68,14 @@ digit-lt u m k x n p q h l =
 replaced-under : (u m k h x n : ℕ) → 0 < u → 0 < m → replaced u m (h * (k * m * u) + x) n ≡ h * (k * m * u) + replaced u m x n
 replaced-under u m k h x n p q =
     let e : h * (k * m * u) + x ≡ h * k * m * u + x = omega arith in
-    rw (e, replaced-as u m (h * k * m * u + x) n, replaced-as u m x n, mul-add-div-right p (h * k * m) x, mul-add-div-right q (h * k) (x / u), mul-add-mod-self-right (h * k * m) u x)
+    rw (
+      e,
+      replaced-as u m (h * k * m * u + x) n,
+      replaced-as u m x n,
+      mul-add-div-right p (h * k * m) x,
+      mul-add-div-right q (h * k) (x / u),
+      mul-add-mod-self-right (h * k * m) u x,
+    )
     (omega arith)
 
 replaced-above : (t u m x l n : ℕ) → 0 < t → 0 < u → l < t → replaced (t * u) m (x * t + l) n ≡ replaced u m x n * t + l
@@ -151,4 +158,5 @@ narrow o at front v back shift b n y r f l =
     let q : c * 2 ^ (8 * back) + numberOf ls < 2 ^ (8 * (v + back)) = rw (i, pow-add 2 (8 * v) (8 * back)) (digits-lt k (e .1)) in
     let z : bytesOf (front + (v + back)) (numberOf hs * 2 ^ (8 * (v + back)) + (c * 2 ^ (8 * back) + numberOf ls)) ≡ hs ++ (bytesOf v c ++ ls) =
     rw (bytes-append front (v + back) (numberOf hs) (c * 2 ^ (8 * back) + numberOf ls) q, bytes-append v back c (numberOf ls) (e .1), h .0, e .0) in
-    rw (x, replaced-inside v back shift b n (numberOf hs) (numberOf ms) (numberOf ls) (e .1) f, z) (sets-inside o (bytesOf v c) at front v back r (length-bytesOf v c))
+    rw (x, replaced-inside v back shift b n (numberOf hs) (numberOf ms) (numberOf ls) (e .1) f, z)
+    (sets-inside o (bytesOf v c) at front v back r (length-bytesOf v c))

@@ -34,8 +34,10 @@ use Rattle.codec.proofs.refusal.number.Reads as number
 use Rattle.codec.proofs.refusal.number.Kinds as number-kinds
 use Rattle.codec.proofs.reader.read_number.Reads as read-number
 use Rattle.codec.proofs.reader.read_number.Kinds as read-number-kinds
-use Rattle.codec.proofs.reader.read_flag.Reads as read-flag
-use Rattle.codec.proofs.reader.read_flag.Kinds as read-flag-kinds
+use Rattle.codec.proofs.reader.read_byte.Reads as read-byte
+use Rattle.codec.proofs.reader.read_byte.Kinds as read-byte-kinds
+use Rattle.codec.proofs.reader.read_word.Reads as read-word
+use Rattle.codec.proofs.reader.read_word.Kinds as read-word-kinds
 use Rattle.codec.proofs.reader.read_text.Reads as read-text
 use Rattle.codec.proofs.reader.read_text.Kinds as read-text-kinds
 use Rattle.codec.proofs.writer.bit_of.Reads as bit-of
@@ -44,6 +46,8 @@ use Rattle.codec.proofs.writer.values_first.Reads as values-first
 use Rattle.codec.proofs.writer.values_first.Kinds as values-first-kinds
 use Rattle.codec.proofs.writer.put_number.Reads as put-number
 use Rattle.codec.proofs.writer.put_number.Kinds as put-number-kinds
+use Rattle.codec.proofs.writer.put_byte.Reads as put-byte
+use Rattle.codec.proofs.writer.put_byte.Kinds as put-byte-kinds
 use Rattle.codec.proofs.writer.put_bytes.Reads as put-bytes
 use Rattle.codec.proofs.writer.put_bytes.Kinds as put-bytes-kinds
 use Rattle.codec.proofs.writer.write_alone.Reads as write-alone
@@ -95,15 +99,23 @@ pub number-one : (κs : Lfts 0) (a : Dens κs number-kinds.ps) (x y : resT numbe
     → number.Post κs a x s → number.Post κs a y t → x ≡ y
 number-one κs a x y s t p q = p ∙ sym q
 
-pub read-number-one : (κs : Lfts 1) (a : Dens κs read-number-kinds.ps) (x y : resT read-number-kinds.r κs .Denot) (s t : AtExit (endedOf 1 read-number-kinds.ps read-number-kinds.r) κs)
+pub read-number-one : (κs : Lfts 1) (a : Dens κs read-number-kinds.ps) (x y : resT read-number-kinds.r κs .Denot)
+    (s t : AtExit (endedOf 1 read-number-kinds.ps read-number-kinds.r) κs)
     → read-number.Post κs a x s → read-number.Post κs a y t → x ≡ y
 read-number-one κs a x y s t p q = number-fixed x y _ (p .0) (q .0)
 
-pub read-flag-one : (κs : Lfts 1) (a : Dens κs read-flag-kinds.ps) (x y : resT read-flag-kinds.r κs .Denot) (s t : AtExit (endedOf 1 read-flag-kinds.ps read-flag-kinds.r) κs)
-    → read-flag.Post κs a x s → read-flag.Post κs a y t → x ≡ y
-read-flag-one κs a x y s t p q = flag-fixed x y _ p q
+pub read-byte-one : (κs : Lfts 1) (a : Dens κs read-byte-kinds.ps) (x y : resT read-byte-kinds.r κs .Denot)
+    (s t : AtExit (endedOf 1 read-byte-kinds.ps read-byte-kinds.r) κs)
+    → read-byte.Post κs a x s → read-byte.Post κs a y t → x ≡ y
+read-byte-one κs a x y s t p q = number-fixed x y _ (p .0) (q .0)
 
-pub read-text-one : (κs : Lfts 1) (a : Dens κs read-text-kinds.ps) (x y : resT read-text-kinds.r κs .Denot) (s t : AtExit (endedOf 1 read-text-kinds.ps read-text-kinds.r) κs)
+pub read-word-one : (κs : Lfts 1) (a : Dens κs read-word-kinds.ps) (x y : resT read-word-kinds.r κs .Denot)
+    (s t : AtExit (endedOf 1 read-word-kinds.ps read-word-kinds.r) κs)
+    → read-word.Post κs a x s → read-word.Post κs a y t → x ≡ y
+read-word-one κs a x y s t p q = number-fixed x y _ (p .0) (q .0)
+
+pub read-text-one : (κs : Lfts 1) (a : Dens κs read-text-kinds.ps) (x y : resT read-text-kinds.r κs .Denot)
+    (s t : AtExit (endedOf 1 read-text-kinds.ps read-text-kinds.r) κs)
     → read-text.Post κs a x s → read-text.Post κs a y t → x ≡ y
 read-text-one κs a x y s t p q = text-fixed (now (a .0)) (a .1 .0) x y (p .0 ∙ sym (q .0)) (p .1) (q .1)
 
@@ -111,23 +123,34 @@ pub bit-of-one : (κs : Lfts 0) (a : Dens κs bit-of-kinds.ps) (x y : resT bit-o
     → bit-of.Post κs a x s → bit-of.Post κs a y t → x ≡ y
 bit-of-one κs a x y s t p q = p ∙ sym q
 
-pub values-first-one : (κs : Lfts 0) (a : Dens κs values-first-kinds.ps) (x y : resT values-first-kinds.r κs .Denot) (s t : AtExit (endedOf 0 values-first-kinds.ps values-first-kinds.r) κs)
+pub values-first-one : (κs : Lfts 0) (a : Dens κs values-first-kinds.ps) (x y : resT values-first-kinds.r κs .Denot)
+    (s t : AtExit (endedOf 0 values-first-kinds.ps values-first-kinds.r) κs)
     → values-first.Post κs a x s → values-first.Post κs a y t → x ≡ y
 values-first-one κs a x y s t p q = told-fixed x y _ p q
 
-pub put-number-one : (κs : Lfts 1) (a : Dens κs put-number-kinds.ps) (x y : resT put-number-kinds.r κs .Denot) (s t : AtExit (endedOf 1 put-number-kinds.ps put-number-kinds.r) κs)
+pub put-number-one : (κs : Lfts 1) (a : Dens κs put-number-kinds.ps) (x y : resT put-number-kinds.r κs .Denot)
+    (s t : AtExit (endedOf 1 put-number-kinds.ps put-number-kinds.r) κs)
     → put-number.Post κs a x s → put-number.Post κs a y t → (x ≡ y) × (now (s .0) ≡ now (t .0))
 put-number-one κs a x y s t p q = (refl, p ∙ sym q)
 
-pub put-bytes-one : (κs : Lfts 2) (a : Dens κs put-bytes-kinds.ps) (x y : resT put-bytes-kinds.r κs .Denot) (s t : AtExit (endedOf 2 put-bytes-kinds.ps put-bytes-kinds.r) κs)
+pub put-byte-one : (κs : Lfts 1) (a : Dens κs put-byte-kinds.ps) (x y : resT put-byte-kinds.r κs .Denot)
+    (s t : AtExit (endedOf 1 put-byte-kinds.ps put-byte-kinds.r) κs)
+    → put-byte.Post κs a x s → put-byte.Post κs a y t → (x ≡ y) × (now (s .0) ≡ now (t .0))
+put-byte-one κs a x y s t p q = (refl, p ∙ sym q)
+
+pub put-bytes-one : (κs : Lfts 2) (a : Dens κs put-bytes-kinds.ps) (x y : resT put-bytes-kinds.r κs .Denot)
+    (s t : AtExit (endedOf 2 put-bytes-kinds.ps put-bytes-kinds.r) κs)
     → put-bytes.Post κs a x s → put-bytes.Post κs a y t → (x ≡ y) × (now (s .0) ≡ now (t .0))
 put-bytes-one κs a x y s t p q = (refl, p ∙ sym q)
 
-pub write-alone-one : (κs : Lfts 1) (a : Dens κs write-alone-kinds.ps) (x y : resT write-alone-kinds.r κs .Denot) (s t : AtExit (endedOf 1 write-alone-kinds.ps write-alone-kinds.r) κs)
+pub write-alone-one : (κs : Lfts 1) (a : Dens κs write-alone-kinds.ps) (x y : resT write-alone-kinds.r κs .Denot)
+    (s t : AtExit (endedOf 1 write-alone-kinds.ps write-alone-kinds.r) κs)
     → write-alone.Post κs a x s → write-alone.Post κs a y t → (x ≡ y) × (now (s .1 .0) ≡ now (t .1 .0))
 write-alone-one κs a x y s t p q = (written-fixed x y _ (p .0) (q .0), p .1 ∙ sym (q .1))
 
-pub write-with-byte-one : (κs : Lfts 1) (a : Dens κs write-with-byte-kinds.ps) (x y : resT write-with-byte-kinds.r κs .Denot) (s t : AtExit (endedOf 1 write-with-byte-kinds.ps write-with-byte-kinds.r) κs)
+pub write-with-byte-one : (κs : Lfts 1) (a : Dens κs write-with-byte-kinds.ps)
+    (x y : resT write-with-byte-kinds.r κs .Denot)
+    (s t : AtExit (endedOf 1 write-with-byte-kinds.ps write-with-byte-kinds.r) κs)
     → write-with-byte.Post κs a x s → write-with-byte.Post κs a y t → (x ≡ y) × (now (s .1 .1 .0) ≡ now (t .1 .1 .0))
 write-with-byte-one κs a x y s t p q = (written-fixed x y _ (p .0) (q .0), p .1 ∙ sym (q .1))
 
@@ -137,7 +160,8 @@ both-say : {M : Type 1} (𝓤 : URA M) (φ ψ χ : Type 0) → (φ → ψ → χ
 both-say 𝓤 φ ψ χ f = needs 𝓤 ψ (fact 𝓤 φ) (λ q. fact-mono 𝓤 φ χ (λ p. f p q))
 
 -- two takings of an item leave the same bytes
-taken-same : (i : Item) (s : List ℕ) {a b : Answer (List ℕ)} {s' s'' : List ℕ} → a ≡ readItem i s → b ≡ readItem i s → s' ≡ behindItem i a s → s'' ≡ behindItem i b s → s' ≡ s''
+taken-same : (i : Item) (s : List ℕ) {a b : Answer (List ℕ)} {s' s'' : List ℕ} → a ≡ readItem i s → b ≡ readItem i s
+    → s' ≡ behindItem i a s → s'' ≡ behindItem i b s → s' ≡ s''
 taken-same i s p q f g = f ∙ ap (λ (x : Answer (List ℕ)). behindItem i x s) (p ∙ sym q) ∙ sym g
 
 abbrev holding : RefT (List ℕ) → Reader
@@ -176,4 +200,8 @@ module _ {M : Type 1} (𝓤 : URA M) (H : Heap 𝓤) (A : Atoms 𝓤) (mem : Mem
   pub reader-string-one : (κs : Lfts 2) (a : Args reader-string.signature κs) (x y : Res reader-string.signature κs) (s t : AtExit reader-string.ended κs)
       → ent 𝓤 (sep 𝓤 (reader-string.clauses 𝓤 H A mem run κs a .ensures tt x s) (reader-string.clauses 𝓤 H A mem run κs a .ensures tt y t))
       (fact 𝓤 ((x ≡ y) × (now (now (s .0) .remaining) ≡ now (now (t .0) .remaining))))
-  reader-string-one κs a x y s t = both-say 𝓤 _ _ _ (λ p q. (text-fixed (now (now (a .0) .remaining)) 0 x y (p .0 .0 ∙ sym (q .0 .0)) (p .1) (q .1), taken-same _ _ (p .0 .0) (q .0 .0) (p .0 .1) (q .0 .1)))
+  reader-string-one κs a x y s t = both-say 𝓤 _ _ _
+      (λ p q. (
+        text-fixed (now (now (a .0) .remaining)) 0 x y (p .0 .0 ∙ sym (q .0 .0)) (p .1) (q .1),
+        taken-same _ _ (p .0 .0) (q .0 .0) (p .0 .1) (q .0 .1),
+      ))

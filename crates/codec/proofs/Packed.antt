@@ -74,6 +74,11 @@ byte-bytes n h = rw (div-one n, mod-eq-of-lt h)
 pub byte-item : (n : ℕ) → n < 256 → itemBytes byte (n ∷ []) ≡ n ∷ []
 byte-item n h = rw (alone n) (byte-bytes n h)
 
+-- a flag's number is that of a byte
+pub bit-small : (b : Bool) → bit b < 256
+bit-small true = omega arith
+bit-small false = omega arith
+
 pub byte-ok : (n : ℕ) → n < 256 → okItem byte (n ∷ []) ≡ true
 byte-ok n h = rw (ltb-zero n, le-ltb 255 n (omega arith))
 

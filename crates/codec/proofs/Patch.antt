@@ -33,7 +33,8 @@ digit-at (b ∷ bs) x (suc j) l = digit-at bs x j (omega arith)
 pub join-set : (bs vs : List ℕ) (j n : ℕ) → Fit bs vs → j < length bs
     → join bs (set vs j n) ≡ replaced (2 ^ below bs j) (2 ^ getD bs j 0) (join bs vs) n
 join-set bs vs j n h l =
-    let o : join bs vs / 2 ^ below bs j % 2 ^ getD bs j 0 ≡ getD vs j 0 = sym (digit-at bs (join bs vs) j l) ∙ ap (λ (d : List ℕ). getD d j 0) (split-join bs vs h) in
+    let o : join bs vs / 2 ^ below bs j % 2 ^ getD bs j 0 ≡ getD vs j 0 = sym (digit-at bs (join bs vs) j l)
+    ∙ ap (λ (d : List ℕ). getD d j 0) (split-join bs vs h) in
     let p = digit-moves bs vs j n h l in
     let q = digit-moves bs vs j 0 h l in
     rw o (omega arith)
@@ -63,7 +64,12 @@ items-set (t ∷ is) (u ∷ vs) zero v l h s =
     let r : 0 + length (itemBytes t v) ≤ length (itemBytes t u ++ w) = rw length-append (omega arith) in
     sym (sets-eq (itemBytes t v) (itemBytes t u ++ w) 0 r ∙ ap (λ (q : List ℕ). itemBytes t v ++ q) (drop-at (itemBytes t u) w (0 + length (itemBytes t v)) e))
 items-set (t ∷ is) (u ∷ vs) (suc i) v l h s =
-    rw (← (size-is t u), sets-right (itemBytes t u) (writeItems is vs) (itemBytes (getD is i (text 0 0)) v) (placeOf is vs i), items-set is vs i v (omega arith) (omega arith) s)
+    rw (
+      ← (size-is t u),
+      sets-right (itemBytes t u) (writeItems is vs) (itemBytes (getD is i (text 0 0)) v)
+          (placeOf is vs i),
+      items-set is vs i v (omega arith) (omega arith) s,
+    )
 
 -- what stands at an item's place
 pub ok-length : (is : List Item) (vs : List (List ℕ)) → okItems is vs ≡ true → length is ≡ length vs
@@ -101,13 +107,15 @@ patch is vs i j n w fs s o h e l =
     let so : soundItem (packed w fs) ≡ true = rw e at (t .0) in
     let wi : within fs v ≡ true = rw e at (t .1) in
     let len = ok-length is vs o in
-    let at : take w (drop (placeOf is vs i) (writeItems is vs)) ≡ bytesOf w (join bs v) = rw e at (item-at is vs i w len h (rw e (length-bytesOf w (join bs v)))) in
+    let at : take w (drop (placeOf is vs i) (writeItems is vs)) ≡ bytesOf w (join bs v) = rw e
+    at (item-at is vs i w len h (rw e (length-bytesOf w (join bs v)))) in
     let x : numberOf (take w (drop (placeOf is vs i) (writeItems is vs))) ≡ join bs v = ap numberOf at ∙ number-bytes w (join bs v) (fits-bytes w fs v so wi) in
     let k : sizeOf (getD is i (text 0 0)) (set v j n) ≡ sizeOf (getD is i (text 0 0)) v = rw e in
     rw (x, ← (join-set bs v j n (fits fs v (both (leb (sum bs) (8 * w)) (soundFields fs) so .1) wi) l)) (rw e at (items-set is vs i (set v j n) len h k))
 
 -- the edited values are in range where n is in its field's
-within-set : (fs : List Field) (vs : List ℕ) (j n : ℕ) → j < length fs → within fs vs ≡ true → inField (getD fs j (field 0 0 0)) n ≡ true → within fs (set vs j n) ≡ true
+within-set : (fs : List Field) (vs : List ℕ) (j n : ℕ) → j < length fs → within fs vs ≡ true
+    → inField (getD fs j (field 0 0 0)) n ≡ true → within fs (set vs j n) ≡ true
 within-set [] vs j n l h k = absurd (omega arith)
 within-set (f ∷ fs) [] j n l h k = let z : _≡_ {A = ℕ} 0 1 = cc in absurd (omega arith)
 within-set (field b lo hi ∷ fs) (v ∷ vs) zero n l h k =
@@ -121,14 +129,16 @@ within-set (field b lo hi ∷ fs) (v ∷ vs) (suc j) n l h k =
     let q = passed (ltb hi v) (within fs vs) (p .1) in
     rw (p .0, q .0) (within-set fs vs j n (omega arith) (q .1) k)
 
-pub ok-set : (is : List Item) (vs : List (List ℕ)) (i : ℕ) (v : List ℕ) → i < length is → okItems is vs ≡ true → okItem (getD is i (text 0 0)) v ≡ true → okItems is (set vs i v) ≡ true
+pub ok-set : (is : List Item) (vs : List (List ℕ)) (i : ℕ) (v : List ℕ) → i < length is → okItems is vs ≡ true
+    → okItem (getD is i (text 0 0)) v ≡ true → okItems is (set vs i v) ≡ true
 ok-set [] vs i v h o k = absurd (omega arith)
 ok-set (t ∷ is) [] i v h o k = let z : _≡_ {A = ℕ} 0 1 = cc in absurd (omega arith)
 ok-set (t ∷ is) (u ∷ vs) zero v h o k = rw k (both (okItem t u) (okItems is vs) o .1)
 ok-set (t ∷ is) (u ∷ vs) (suc i) v h o k = let b = both (okItem t u) (okItems is vs) o in rw (b .0) (ok-set is vs i v (omega arith) (b .1) k)
 
 pub patch-ok : (is : List Item) (vs : List (List ℕ)) (i j n w : ℕ) (fs : List Field)
-    → okItems is vs ≡ true → soundItems is ≡ true → i < length is → getD is i (text 0 0) ≡ packed w fs → j < length fs → inField (getD fs j (field 0 0 0)) n ≡ true
+    → okItems is vs ≡ true → soundItems is ≡ true → i < length is → getD is i (text 0 0) ≡ packed w fs → j < length fs
+    → inField (getD fs j (field 0 0 0)) n ≡ true
     → okItems is (setValue vs i j n) ≡ true
 patch-ok is vs i j n w fs o s h e l k =
     ok-set is vs i (set (getD vs i []) j n) h o (rw e (within-set fs (getD vs i []) j n l (rw e at (item-ok is vs i h s o .1)) k))

@@ -25,7 +25,8 @@ join-by : (i : Item) (is js : List Item) (s : List ℕ) (at : ℕ) (a : Answer (
     → ((v : List ℕ) → readItems (is ++ js) s (at + sizeOf i v)
     ≡ andThen (readItems is s (at + sizeOf i v)) (λ xs. andThen (readItems js s (endOf is xs (at + sizeOf i v))) (λ ys. got (xs ++ ys))))
     → andThen a (λ v. andThen (readItems (is ++ js) s (at + sizeOf i v)) (λ vs. got (v ∷ vs)))
-    ≡ andThen (andThen a (λ v. andThen (readItems is s (at + sizeOf i v)) (λ vs. got (v ∷ vs)))) (λ xs. andThen (readItems js s (endOf (i ∷ is) xs at)) (λ ys. got (xs ++ ys)))
+    ≡ andThen (andThen a (λ v. andThen (readItems is s (at + sizeOf i v)) (λ vs. got (v ∷ vs))))
+    (λ xs. andThen (readItems js s (endOf (i ∷ is) xs at)) (λ ys. got (xs ++ ys)))
 join-by i is js s at (got v) go =
     ap (λ (x : Answer (List (List ℕ))). andThen x (λ vs. got (v ∷ vs))) (go v) ∙ join-next i is js s at v (readItems is s (at + sizeOf i v))
 join-by i is js s at (refused n p) go = refl

@@ -18,7 +18,7 @@ use denote.Triple.Clauses.{AtExit}
 use lib.ListN.{length, drop}
 use Rattle.codec.specs.Pick.{pick}
 use Rattle.codec.specs.Digits.{bytesOf}
-use Rattle.codec.specs.Sheet.{got, refused, number, flag, text}
+use Rattle.codec.specs.Sheet.{got, refused, number, byte, word, long, flag, text}
 use Rattle.codec.specs.Reading.{readItem}
 use Rattle.codec.specs.Writing.{stopRoom, counted, putAt}
 use Rattle.codec.specs.Refusals.{refusalNumber}
@@ -57,6 +57,22 @@ short-number = refl
 pub missing-first : readItem (number (widthOf Two) 5000 6000) (drop 0 (0xFF ∷ [])) ≡ refused 1 0
 unfolding readItem
 missing-first = refl
+
+-- ---- reader::read_byte, read_word, read_long
+-- a missing byte is not 0
+pub no-byte : readItem byte (drop 1 (7 ∷ [])) ≡ refused 1 0
+unfolding readItem
+no-byte = refl
+
+-- the highest byte stands first
+pub word-high-first : readItem word (drop 1 (0 ∷ 0x12 ∷ 0x34 ∷ [])) ≡ got (0x1234 ∷ [])
+unfolding readItem
+word-high-first = refl
+
+-- three bytes are no long
+pub long-short : readItem long (drop 0 (1 ∷ 2 ∷ 3 ∷ [])) ≡ refused 1 0
+unfolding readItem
+long-short = refl
 
 -- ---- reader::read_flag
 -- 2 is no flag
@@ -104,13 +120,15 @@ module _ {M : Type 1} (𝓤 : URA M) (H : Heap 𝓤) (A : Atoms 𝓤) (mem : Mem
 
   -- the byte behind is not passed over: it is still to come
   pub byte-takes-one : (κs : Lfts 2) (x : NumberRead) (e : AtExit next-byte.ended κs)
-      → ent 𝓤 (next-byte.clauses 𝓤 H A mem run κs (held (7 ∷ 9 ∷ []), tt) .ensures tt x e) (fact 𝓤 ((toldNumber x ≡ got (7 ∷ [])) × (now (now (e .0) .remaining) ≡ 9 ∷ [])))
+      → ent 𝓤 (next-byte.clauses 𝓤 H A mem run κs (held (7 ∷ 9 ∷ []), tt) .ensures tt x e)
+      (fact 𝓤 ((toldNumber x ≡ got (7 ∷ [])) × (now (now (e .0) .remaining) ≡ 9 ∷ [])))
   unfolding readItem
   byte-takes-one κs x e = fact-mono 𝓤 _ _ (λ p. (p .0 .0, rw (p .0 .0) at (p .0 .1)))
 
   -- of too few bytes none is left to be read as a shorter number
   pub word-short : (κs : Lfts 2) (x : NumberRead) (e : AtExit next-u16.ended κs)
-      → ent 𝓤 (next-u16.clauses 𝓤 H A mem run κs (held (7 ∷ []), tt) .ensures tt x e) (fact 𝓤 ((toldNumber x ≡ refused 1 0) × (now (now (e .0) .remaining) ≡ [])))
+      → ent 𝓤 (next-u16.clauses 𝓤 H A mem run κs (held (7 ∷ []), tt) .ensures tt x e)
+      (fact 𝓤 ((toldNumber x ≡ refused 1 0) × (now (now (e .0) .remaining) ≡ [])))
   unfolding readItem
   word-short κs x e = fact-mono 𝓤 _ _ (λ p. (p .0 .0, rw (p .0 .0) at (p .0 .1)))
 
@@ -122,7 +140,8 @@ module _ {M : Type 1} (𝓤 : URA M) (H : Heap 𝓤) (A : Atoms 𝓤) (mem : Mem
 
   -- four bytes, and not three with the rest still to come
   pub u32-takes-four : (κs : Lfts 2) (x : NumberRead) (e : AtExit next-u32.ended κs)
-      → ent 𝓤 (next-u32.clauses 𝓤 H A mem run κs (held (0 ∷ 1 ∷ 0xC2 ∷ 0 ∷ 9 ∷ []), tt) .ensures tt x e) (fact 𝓤 ((toldNumber x ≡ got (115200 ∷ [])) × (now (now (e .0) .remaining) ≡ 9 ∷ [])))
+      → ent 𝓤 (next-u32.clauses 𝓤 H A mem run κs (held (0 ∷ 1 ∷ 0xC2 ∷ 0 ∷ 9 ∷ []), tt) .ensures tt x e)
+      (fact 𝓤 ((toldNumber x ≡ got (115200 ∷ [])) × (now (now (e .0) .remaining) ≡ 9 ∷ [])))
   unfolding readItem
   u32-takes-four κs x e = fact-mono 𝓤 _ _ (λ p. (p .0 .0, rw (p .0 .0) at (p .0 .1)))
 
@@ -160,6 +179,11 @@ number-whole = refl
 -- the bytes before and behind keep theirs, and the highest stands first
 pub number-there : putAt (1 ∷ 2 ∷ 3 ∷ 4 ∷ []) 1 (bytesOf (widthOf Two) 0x1234) ≡ 1 ∷ 0x12 ∷ 0x34 ∷ 4 ∷ []
 number-there = refl
+
+-- ---- writer::put_byte
+-- behind the end none is put
+pub byte-whole : putAt (1 ∷ 2 ∷ []) 2 (8 ∷ []) ≡ 1 ∷ 2 ∷ []
+byte-whole = refl
 
 -- ---- writer::put_bytes
 -- what has no room is not cut

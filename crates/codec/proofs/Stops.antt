@@ -31,7 +31,8 @@ each-ok n room at (i ∷ is) [] l h = absurd (omega arith)
 each-ok n room at (i ∷ is) (v ∷ vs) l h = by (okItem i v) (ltb room (at + sizeOf i v)) refl refl h (each-ok n room (at + sizeOf i v) is vs (omega arith))
   where
     by : (o t : Bool) → okItem i v ≡ o → ltb room (at + sizeOf i v) ≡ t → pick o (pick t (suc n) (stopEach (suc n) room (at + sizeOf i v) is vs)) 2 ≡ 0
-        → (stopEach (suc n) room (at + sizeOf i v) is vs ≡ 0 → (okItems is vs ≡ true) × (at + sizeOf i v ≤ room → at + sizeOf i v + length (writeItems is vs) ≤ room))
+        → (stopEach (suc n) room (at + sizeOf i v) is vs ≡ 0
+        → (okItems is vs ≡ true) × (at + sizeOf i v ≤ room → at + sizeOf i v + length (writeItems is vs) ≤ room))
         → (okItems (i ∷ is) (v ∷ vs) ≡ true) × (at ≤ room → at + length (writeItems (i ∷ is) (v ∷ vs)) ≤ room)
     by true true p q g go = absurd (omega arith)
     by true false p q g go =

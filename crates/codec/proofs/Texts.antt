@@ -22,7 +22,8 @@ before-end s i h = rw (drop-of-length-le s h)
 pub before-more : (s : List ℕ) (i : ℕ) → i < length s → (getD s i 0 ≡ 0 → ⊥) → before0 (drop i s) ≡ getD s i 0 ∷ before0 (drop (i + 1) s)
 before-more s i h e = rw (drop-cons s i 0 h, ne-eqb (getD s i 0) 0 e, add-one)
 
-take-by : (b : ℕ) (s : List ℕ) (t : Bool) → take (length (before0 s)) s ≡ before0 s → take (length (pick t [] (b ∷ before0 s))) (b ∷ s) ≡ pick t [] (b ∷ before0 s)
+take-by : (b : ℕ) (s : List ℕ) (t : Bool) → take (length (before0 s)) s ≡ before0 s
+    → take (length (pick t [] (b ∷ before0 s))) (b ∷ s) ≡ pick t [] (b ∷ before0 s)
 take-by b s true e = refl
 take-by b s false e = ap (λ (l : List ℕ). b ∷ l) e
 
@@ -39,16 +40,23 @@ pub no-end : (most : ℕ) (s : List ℕ) (at e : ℕ) → e ≡ at + length (bef
 unfolding readItem
 no-end most s at e p h = rw (le-ltb (length (before0 (drop at s))) (length (drop at s)) (rw length-drop (omega arith)))
 
-pub too-long : (most : ℕ) (s : List ℕ) (at e : ℕ) → e ≡ at + length (before0 (drop at s)) → e < length s → most < e - at → readItem (text 0 most) (drop at s) ≡ refused 1 0
+pub too-long : (most : ℕ) (s : List ℕ) (at e : ℕ) → e ≡ at + length (before0 (drop at s)) → e < length s
+    → most < e - at → readItem (text 0 most) (drop at s) ≡ refused 1 0
 unfolding readItem
 too-long most s at e p h l =
     rw (lt-ltb (length (before0 (drop at s))) (length (drop at s)) (rw length-drop (omega arith)), lt-ltb most (length (before0 (drop at s))) (omega arith))
 
-pub text-is : (most : ℕ) (s : List ℕ) (at e : ℕ) → e ≡ at + length (before0 (drop at s)) → e < length s → e - at ≤ most → got (take (e - at) (drop at s)) ≡ readItem (text 0 most) (drop at s)
+pub text-is : (most : ℕ) (s : List ℕ) (at e : ℕ) → e ≡ at + length (before0 (drop at s)) → e < length s → e - at ≤ most
+    → got (take (e - at) (drop at s)) ≡ readItem (text 0 most) (drop at s)
 unfolding readItem
 text-is most s at e p h l =
     let m : e - at ≡ length (before0 (drop at s)) = omega arith in
-    rw (lt-ltb (length (before0 (drop at s))) (length (drop at s)) (rw length-drop (omega arith)), le-ltb most (length (before0 (drop at s))) (omega arith), m, before-take)
+    rw (
+      lt-ltb (length (before0 (drop at s))) (length (drop at s)) (rw length-drop (omega arith)),
+      le-ltb most (length (before0 (drop at s))) (omega arith),
+      m,
+      before-take,
+    )
 
 -- what follows a text stands after its bytes and its 00
 pub after-text : (s : List ℕ) (at n next : ℕ) → (at + n < length s) × (next ≡ at + (n + 1)) → at + (length (take n (drop at s)) + 1) ≡ next

@@ -46,7 +46,8 @@ packed-by w fs s v false true p q h =
     let e : v ≡ split (widths fs) (numberOf (take w s)) = cc in
     (rw e q, (ltb-false (length s) w p, e))
 
-text-by : (least most : ℕ) (s v : List ℕ) (a b c : Bool) → ltb (length (before0 s)) (length s) ≡ a → ltb most (length (before0 s)) ≡ b → shorter least (before0 s) ≡ c
+text-by : (least most : ℕ) (s v : List ℕ) (a b c : Bool) → ltb (length (before0 s)) (length s) ≡ a
+    → ltb most (length (before0 s)) ≡ b → shorter least (before0 s) ≡ c
     → pick a (pick b (refused 1 0) (pick c (refused 2 0) (got (before0 s)))) (refused 1 0) ≡ got v → There (text least most) s v
 text-by least most s v false b c p q r h = let z : _≡_ {A = ℕ} 0 1 = cc in absurd (omega arith)
 text-by least most s v true true c p q r h = let z : _≡_ {A = ℕ} 0 1 = cc in absurd (omega arith)
@@ -105,7 +106,10 @@ row-there (row k is ∷ rs) s sub b h = row-by k is rs s sub b (eqb sub k) refl 
 
 -- a body that was read: on the sheet, in range, and there
 pub body-there : (rs : List Row) (s : List ℕ) (b : Said) → readBody rs s ≡ got b
-    → (sub : ℕ) × ((vs : List (List ℕ)) × ((b ≡ said sub vs) × ((hasRow rs sub ≡ true) × ((okItems (itemsOf rs sub) vs ≡ true) × (length (writeBody rs (said sub vs)) ≤ length s)))))
+    → (sub : ℕ) × ((vs : List (List ℕ))
+    × ((b ≡ said sub vs) ×
+    ((hasRow rs sub ≡ true) × ((okItems (itemsOf rs sub) vs ≡ true) × (length (writeBody rs (said sub vs)) ≤ length
+    s)))))
 body-there rs s b h =
     let p = and-got (readItem byte (drop 0 s)) (λ v. readRow rs s (first v)) b h in
     let l = item-there byte (drop 0 s) (p .0) (p .1 .0) .1 .0 in

@@ -214,7 +214,8 @@ pub room-writes : (rs : List Row) (sub : ℕ) (vs : List (List ℕ)) (w s s' : L
     → Writes (stopInOrder rs (length s) (said sub vs)) (writeBody rs (said sub vs)) r s s'
 room-writes rs sub vs w s s' r o e h =
     let b = writeBody rs (said sub vs) in
-    let f : stopInOrder rs (length s) (said sub vs) ≡ stopRoom (length s) (length w) = room-only rs (length s) sub vs o ∙ ap (λ (x : List ℕ). stopRoom (length s) (length x)) e in
+    let f : stopInOrder rs (length s) (said sub vs) ≡ stopRoom (length s) (length w) = room-only rs (length s) sub vs o
+    ∙ ap (λ (x : List ℕ). stopRoom (length s) (length x)) e in
     let g : length b ≡ length w = ap length e in
     (rw (f, g) (h .0), rw (f, e) (h .1))
 

@@ -5,8 +5,8 @@ use mathlib.Core.Path.{_≡_}
 use mathlib.Core.List.{List, [], _∷_}
 use lib.ListN.{length, take, drop}
 use Rattle.codec.specs.Pick.{pick}
-use Rattle.codec.specs.Sheet.{Answer, got, refused}
-use Rattle.codec.specs.Writing.{leaves}
+use Rattle.codec.specs.Sheet.{Row, Said, Answer, got, refused}
+use Rattle.codec.specs.Writing.{writeBody, stopInOrder, stopRoom, stopValuesFirst, leaves}
 use Rattle.codec.specs.Refusals.{refusalNumber, SetOut, numbered}
 use Rattle.codec.specs.declared.reader.Width.{Width}
 use Rattle.codec.specs.declared.reader.Width.the-variants.{One, Two, Three, Four}
@@ -68,3 +68,15 @@ countOut (suc stop) n = numbered (suc stop) 0
 -- WRITING these bytes, unless that number stops it, answers r and leaves s' of s
 abbrev pub Writes : ℕ → List ℕ → Written → List ℕ → List ℕ → Type 0
 Writes stop w r s s' = (writtenOut r ≡ countOut stop (length w)) × (s' ≡ leaves stop w s)
+
+-- the body of a sheet, item by item: "LED takes its items in order", "The others look at room only"
+abbrev pub WritesInOrder : List Row → Said → Written → List ℕ → List ℕ → Type 0
+WritesInOrder rows what r s s' = Writes (stopInOrder rows (length s) what) (writeBody rows what) r s s'
+
+-- "VTX and ACK look at values first (2), then at room (3)."
+abbrev pub WritesValuesFirst : List Row → Said → Written → List ℕ → List ℕ → Type 0
+WritesValuesFirst rows what r s s' = Writes (stopValuesFirst rows (length s) what) (writeBody rows what) r s s'
+
+-- bytes as they are, which look at room only
+abbrev pub WritesAll : List ℕ → Written → List ℕ → List ℕ → Type 0
+WritesAll w r s s' = Writes (stopRoom (length s) (length w)) w r s s'

@@ -4,10 +4,10 @@ ghost use Prim.Native.Nat.{_≤_, _<_, _+_, _*_, _^_};
 ghost use lib.ListN.{length, take, drop};
 ghost use lib.Dec.{ltb};
 ghost use Rattle.codec.specs.Digits.{numberOf};
-ghost use Rattle.codec.specs.Sheet.{number, byte, word, long, flag, text};
+ghost use Rattle.codec.specs.Sheet.{number, byte, word, long, flag};
 ghost use Rattle.codec.specs.Reading.{before0, readItem};
-ghost use Rattle.codec.specs.Told.{widthOf, toldNumber, atMost, toldFlag, toldText, textIn};
-ghost use Rattle.codec.specs.Taking.{behindItem, Takes, BehindNumber, BehindText};
+ghost use Rattle.codec.specs.Told.{widthOf, toldNumber, toldFlag};
+ghost use Rattle.codec.specs.Taking.{ReadsNumber, ReadsText, behindItem, TakesNumber, TakesFlag, TakesText, BehindNumber, BehindText};
 use crate::refusal::Refusal;
 
 pub enum Width {
@@ -77,7 +77,7 @@ fn number_at(s: &[u8], at: usize, w: usize) -> u32
 
 // A number of a width, within low and high.
 pub fn read_number(bytes: &[u8], at: usize, width: Width, low: u32, high: u32) -> NumberRead
-    ensures { λ r. ⌜ (toldNumber r ≡ readItem (number (widthOf width) low high) (drop at (now (bytes .entry)))) × atMost high r ⌝ }
+    ensures { λ r. ⌜ ReadsNumber (number (widthOf width) low high) high r (drop at (now (bytes .entry))) ⌝ }
 {
     let count = bytes_of(width);
     if beyond(bytes.len(), at, count) {
@@ -93,7 +93,26 @@ pub fn read_number(bytes: &[u8], at: usize, width: Width, low: u32, high: u32) -
     NumberRead::Got(n)
 }
 
-pub fn read_flag(bytes: &[u8], at: usize) -> FlagRead
+// A byte, a word and a long, as the sheets call them.
+pub fn read_byte(bytes: &[u8], at: usize) -> NumberRead
+    ensures { λ r. ⌜ ReadsNumber byte 255 r (drop at (now (bytes .entry))) ⌝ }
+{
+    read_number(bytes, at, Width::One, 0, 255)
+}
+
+pub fn read_word(bytes: &[u8], at: usize) -> NumberRead
+    ensures { λ r. ⌜ ReadsNumber word 65535 r (drop at (now (bytes .entry))) ⌝ }
+{
+    read_number(bytes, at, Width::Two, 0, 65535)
+}
+
+fn read_long(bytes: &[u8], at: usize) -> NumberRead
+    ensures { λ r. ⌜ ReadsNumber long 4294967295 r (drop at (now (bytes .entry))) ⌝ }
+{
+    read_number(bytes, at, Width::Four, 0, 4294967295)
+}
+
+fn read_flag(bytes: &[u8], at: usize) -> FlagRead
     ensures { λ r. ⌜ toldFlag r ≡ readItem flag (drop at (now (bytes .entry))) ⌝ }
 {
     match read_number(bytes, at, Width::One, 0, 1) {
@@ -119,7 +138,7 @@ fn end_of(s: &[u8], at: usize) -> usize
 
 // A text of at most so many bytes.
 pub fn read_text(bytes: &[u8], at: usize, most: usize) -> TextRead
-    ensures { λ r. ⌜ (toldText (now (bytes .entry)) at r ≡ readItem (text 0 most) (drop at (now (bytes .entry)))) × textIn (now (bytes .entry)) at r ⌝ }
+    ensures { λ r. ⌜ ReadsText most r (now (bytes .entry)) at ⌝ }
 {
     if bytes.len() <= at {
         return TextRead::Refused(Refusal::InvalidPayloadLength);
@@ -159,9 +178,9 @@ fn behind_number(s: &[u8], got: NumberRead, n: usize) -> &[u8]
 }
 
 fn first_byte(s: &[u8]) -> NumberRead
-    ensures { λ r. ⌜ (toldNumber r ≡ readItem byte (now (s .entry))) × atMost 255 r ⌝ }
+    ensures { λ r. ⌜ ReadsNumber byte 255 r (now (s .entry)) ⌝ }
 {
-    read_number(s, 0, Width::One, 0, 255)
+    read_byte(s, 0)
 }
 
 fn behind_byte(s: &[u8], got: NumberRead) -> &[u8]
@@ -171,9 +190,9 @@ fn behind_byte(s: &[u8], got: NumberRead) -> &[u8]
 }
 
 fn first_u16(s: &[u8]) -> NumberRead
-    ensures { λ r. ⌜ (toldNumber r ≡ readItem word (now (s .entry))) × atMost 65535 r ⌝ }
+    ensures { λ r. ⌜ ReadsNumber word 65535 r (now (s .entry)) ⌝ }
 {
-    read_number(s, 0, Width::Two, 0, 65535)
+    read_word(s, 0)
 }
 
 fn behind_u16(s: &[u8], got: NumberRead) -> &[u8]
@@ -184,7 +203,7 @@ fn behind_u16(s: &[u8], got: NumberRead) -> &[u8]
 
 // Three bytes, for a colour: "A colour is one item."
 fn first_u24(s: &[u8]) -> NumberRead
-    ensures { λ r. ⌜ (toldNumber r ≡ readItem (number 3 0 16777215) (now (s .entry))) × atMost 16777215 r ⌝ }
+    ensures { λ r. ⌜ ReadsNumber (number 3 0 16777215) 16777215 r (now (s .entry)) ⌝ }
 {
     read_number(s, 0, Width::Three, 0, 16777215)
 }
@@ -196,9 +215,9 @@ fn behind_u24(s: &[u8], got: NumberRead) -> &[u8]
 }
 
 fn first_u32(s: &[u8]) -> NumberRead
-    ensures { λ r. ⌜ (toldNumber r ≡ readItem long (now (s .entry))) × atMost 4294967295 r ⌝ }
+    ensures { λ r. ⌜ ReadsNumber long 4294967295 r (now (s .entry)) ⌝ }
 {
-    read_number(s, 0, Width::Four, 0, 4294967295)
+    read_long(s, 0)
 }
 
 fn behind_u32(s: &[u8], got: NumberRead) -> &[u8]
@@ -223,7 +242,7 @@ fn behind_boolean(s: &[u8], got: FlagRead) -> &[u8]
 }
 
 fn first_string(s: &[u8]) -> TextRead
-    ensures { λ r. ⌜ (toldText (now (s .entry)) 0 r ≡ readItem (text 0 51) (now (s .entry))) × textIn (now (s .entry)) 0 r ⌝ }
+    ensures { λ r. ⌜ ReadsText 51 r (now (s .entry)) 0 ⌝ }
 {
     read_text(s, 0, MAX_COMMAND_STRING_LEN)
 }
@@ -251,7 +270,7 @@ impl<'a> Reader<'a> {
     }
 
     pub fn byte(&mut self) -> NumberRead
-        ensures { λ r. ⌜ Takes byte (toldNumber r) (now (now (self .entry) .remaining)) (now (now (self .exit) .remaining)) × atMost 255 r ⌝ }
+        ensures { λ r. ⌜ TakesNumber byte 255 r (now (now (self .entry) .remaining)) (now (now (self .exit) .remaining)) ⌝ }
     {
         let s = self.remaining;
         let got = first_byte(s);
@@ -260,7 +279,7 @@ impl<'a> Reader<'a> {
     }
 
     pub fn u16(&mut self) -> NumberRead
-        ensures { λ r. ⌜ Takes word (toldNumber r) (now (now (self .entry) .remaining)) (now (now (self .exit) .remaining)) × atMost 65535 r ⌝ }
+        ensures { λ r. ⌜ TakesNumber word 65535 r (now (now (self .entry) .remaining)) (now (now (self .exit) .remaining)) ⌝ }
     {
         let s = self.remaining;
         let got = first_u16(s);
@@ -270,7 +289,7 @@ impl<'a> Reader<'a> {
 
     // A colour's three bytes, where the Rust takes two and one: "A colour is one item."
     pub fn u24(&mut self) -> NumberRead
-        ensures { λ r. ⌜ Takes (number 3 0 16777215) (toldNumber r) (now (now (self .entry) .remaining)) (now (now (self .exit) .remaining)) × atMost 16777215 r ⌝ }
+        ensures { λ r. ⌜ TakesNumber (number 3 0 16777215) 16777215 r (now (now (self .entry) .remaining)) (now (now (self .exit) .remaining)) ⌝ }
     {
         let s = self.remaining;
         let got = first_u24(s);
@@ -279,7 +298,7 @@ impl<'a> Reader<'a> {
     }
 
     pub fn u32(&mut self) -> NumberRead
-        ensures { λ r. ⌜ Takes long (toldNumber r) (now (now (self .entry) .remaining)) (now (now (self .exit) .remaining)) × atMost 4294967295 r ⌝ }
+        ensures { λ r. ⌜ TakesNumber long 4294967295 r (now (now (self .entry) .remaining)) (now (now (self .exit) .remaining)) ⌝ }
     {
         let s = self.remaining;
         let got = first_u32(s);
@@ -288,7 +307,7 @@ impl<'a> Reader<'a> {
     }
 
     pub fn boolean(&mut self) -> FlagRead
-        ensures { λ r. ⌜ Takes flag (toldFlag r) (now (now (self .entry) .remaining)) (now (now (self .exit) .remaining)) ⌝ }
+        ensures { λ r. ⌜ TakesFlag r (now (now (self .entry) .remaining)) (now (now (self .exit) .remaining)) ⌝ }
     {
         let s = self.remaining;
         let got = first_boolean(s);
@@ -298,7 +317,7 @@ impl<'a> Reader<'a> {
 
     // The text stands at the front of the bytes that there were.
     pub fn string(&mut self) -> TextRead
-        ensures { λ r. ⌜ Takes (text 0 51) (toldText (now (now (self .entry) .remaining)) 0 r) (now (now (self .entry) .remaining)) (now (now (self .exit) .remaining)) × textIn (now (now (self .entry) .remaining)) 0 r ⌝ }
+        ensures { λ r. ⌜ TakesText r (now (now (self .entry) .remaining)) (now (now (self .exit) .remaining)) ⌝ }
     {
         let s = self.remaining;
         let got = first_string(s);

@@ -7,7 +7,7 @@ ghost use lib.Seq.{sets};
 ghost use Rattle.codec.specs.Pick.{pick};
 ghost use Rattle.codec.specs.Digits.{bytesOf};
 ghost use Rattle.codec.specs.Writing.{stopRoom, counted, putAt};
-ghost use Rattle.codec.specs.Told.{widthOf, bit, toldWritten, Writes};
+ghost use Rattle.codec.specs.Told.{widthOf, bit, toldWritten, WritesAll};
 use crate::reader::Width;
 use crate::reader::beyond;
 use crate::reader::bytes_of;
@@ -72,6 +72,15 @@ pub fn put_number(buffer: &mut [u8], at: usize, width: Width, value: u32)
     put_back(buffer, at, count, value);
 }
 
+// A byte, where it has room.
+pub fn put_byte(buffer: &mut [u8], at: usize, value: u8)
+    ensures { λ r. ⌜ now (buffer .exit) ≡ putAt (now (buffer .entry)) at (value ∷ []) ⌝ }
+{
+    if at < buffer.len() {
+        buffer[at] = value;
+    }
+}
+
 fn put_each(s: &mut [u8], at: usize, t: &[u8])
     requires { ⌜ at + length (now t) ≤ length (now s) ⌝ }
     ensures { λ r. ⌜ now (s .exit) ≡ sets (now (s .entry)) at (now (t .entry)) ⌝ }
@@ -95,7 +104,7 @@ pub fn put_bytes(buffer: &mut [u8], at: usize, bytes: &[u8])
 
 // A body that is a sub-command alone.
 pub fn write_alone(sub: u8, buffer: &mut [u8]) -> Written
-    ensures { λ r. ⌜ Writes (stopRoom (length (now (buffer .entry))) 1) (sub ∷ []) r (now (buffer .entry)) (now (buffer .exit)) ⌝ }
+    ensures { λ r. ⌜ WritesAll (sub ∷ []) r (now (buffer .entry)) (now (buffer .exit)) ⌝ }
 {
     if buffer.len() < 1 {
         return Written::Refused(Refusal::BufferOverflow);
@@ -106,7 +115,7 @@ pub fn write_alone(sub: u8, buffer: &mut [u8]) -> Written
 
 // A body that is a sub-command and one byte.
 pub fn write_with_byte(sub: u8, value: u8, buffer: &mut [u8]) -> Written
-    ensures { λ r. ⌜ Writes (stopRoom (length (now (buffer .entry))) 2) (sub ∷ value ∷ []) r (now (buffer .entry)) (now (buffer .exit)) ⌝ }
+    ensures { λ r. ⌜ WritesAll (sub ∷ value ∷ []) r (now (buffer .entry)) (now (buffer .exit)) ⌝ }
 {
     if buffer.len() < 2 {
         return Written::Refused(Refusal::BufferOverflow);

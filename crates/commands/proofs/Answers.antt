@@ -49,7 +49,8 @@ screenCommand dst src x = record {
   command = record { «dst_addr» = dst; «src_addr» = src; payload = Screen (x .command); len = x .popup .len; bytes = x .popup .bytes };
 }
 
-screen-is : (dst src : ℕ) (q : ScreenSaid) (x : ScreenAnswer) → ScreenIs (got q) x → CommandIs (got (commandOf dst src (screenWithStored q))) (screenCommand dst src x)
+screen-is : (dst src : ℕ) (q : ScreenSaid) (x : ScreenAnswer) → ScreenIs (got q) x
+    → CommandIs (got (commandOf dst src (screenWithStored q))) (screenCommand dst src x)
 screen-is dst src (started p) x h = (refl, rw (h .1 .0, h .1 .1))
 screen-is dst src (returned b) x h = (refl, rw (h .1 .0, h .1 .1))
 

@@ -113,7 +113,8 @@ popup-back n b y l m =
     let q : ScreenPopup = record { len = n; bytes = b } in
     let d = made-decided q y l m in
     let g = popup-by (d .0) q (d .1) in
-    started-beside n b (writePopup (popupSays (d .0))) (popupSays (d .0)) (ap (λ (x : ScreenPopup). x .len) (g .1)) (ap (λ (x : ScreenPopup). x .bytes) (g .1)) refl (g .0)
+    started-beside n b (writePopup (popupSays (d .0))) (popupSays (d .0)) (ap (λ (x : ScreenPopup). x .len) (g .1))
+    (ap (λ (x : ScreenPopup). x .bytes) (g .1)) refl (g .0)
 
 return-reads : (v : ℕ) (r : Bool) (n : ℕ) (b : List ℕ) → v < 256 → madeBytes 0 n b ≡ true → length b ≡ 55 → Reads (Screen (SelectionReturnValue v r)) n b
 return-reads v r n b h m l =
@@ -125,22 +126,30 @@ return-reads v r n b h m l =
 -- ---- THE body of a command that is made and that nothing stops reads back
 pub body-back : (p : CommandPayload) (n : ℕ) (b : List ℕ) (room : ℕ) → TypedPayload p → Bytes b → length b ≡ 55 → madeBeside p n b ≡ true
     → stopBody p (take n b) room ≡ 0 → Reads p n b
-body-back (Fc c) n b room x y l m h = plain-back fcRows (λ d. Fc (fcOf d)) (fcSays c) (Fc c) n b (fc-back c room [] h) (ap (λ (d : FcCommand). Fc d) (fc-of c)) m l
-body-back (Osd c) n b room x y l m h = plain-back osdRows (λ d. Osd (osdOf d)) (osdSays c) (Osd c) n b (osd-back c room [] h) (ap (λ (d : OsdCommand). Osd d) (osd-of c)) m l
-body-back (Vtx c) n b room x y l m h = plain-back vtxRows (λ d. Vtx (vtxOf d)) (vtxSays c) (Vtx c) n b (vtx-back c room [] h) (ap (λ (d : VtxCommand). Vtx d) (vtx-of c)) m l
-body-back (Led c) n b room x y l m h = plain-back ledRows (λ d. Led (ledOf d)) (ledSays c) (Led c) n b (led-back c room [] h) (ap (λ (d : LedCommand). Led d) (led-of c)) m l
+body-back (Fc c) n b room x y l m h = plain-back fcRows (λ d. Fc (fcOf d)) (fcSays c) (Fc c) n b (fc-back c room [] h)
+    (ap (λ (d : FcCommand). Fc d) (fc-of c)) m l
+body-back (Osd c) n b room x y l m h = plain-back osdRows (λ d. Osd (osdOf d)) (osdSays c) (Osd c) n b
+    (osd-back c room [] h) (ap (λ (d : OsdCommand). Osd d) (osd-of c)) m l
+body-back (Vtx c) n b room x y l m h = plain-back vtxRows (λ d. Vtx (vtxOf d)) (vtxSays c) (Vtx c) n b
+    (vtx-back c room [] h) (ap (λ (d : VtxCommand). Vtx d) (vtx-of c)) m l
+body-back (Led c) n b room x y l m h = plain-back ledRows (λ d. Led (ledOf d)) (ledSays c) (Led c) n b
+    (led-back c room [] h) (ap (λ (d : LedCommand). Led d) (led-of c)) m l
 body-back (General c) n b room x y l m h =
-    plain-back generalRows (λ d. General (generalOf d)) (generalSays c) (General c) n b (general-back c room [] h) (ap (λ (d : GeneralCommand). General d) (general-of c)) m l
+    plain-back generalRows (λ d. General (generalOf d)) (generalSays c) (General c) n b (general-back c room [] h)
+    (ap (λ (d : GeneralCommand). General d) (general-of c)) m l
 body-back (Crossfire c) n b room x y l m h =
-    plain-back crossfireRows (λ d. Crossfire (crossfireOf d)) (crossfireSays c) (Crossfire c) n b (crossfire-back c room [] h) (ap (λ (d : CrossfireCommand). Crossfire d) (crossfire-of c)) m l
+    plain-back crossfireRows (λ d. Crossfire (crossfireOf d)) (crossfireSays c) (Crossfire c) n b
+    (crossfire-back c room [] h) (ap (λ (d : CrossfireCommand). Crossfire d) (crossfire-of c)) m l
 body-back (FlowControl c) n b room x y l m h =
-    plain-back flowRows (λ d. FlowControl (flowOf d)) (flowSays c) (FlowControl c) n b (flow-back c room [] h) (ap (λ (d : FlowControlCommand). FlowControl d) (flow-of c)) m l
+    plain-back flowRows (λ d. FlowControl (flowOf d)) (flowSays c) (FlowControl c) n b (flow-back c room [] h)
+    (ap (λ (d : FlowControlCommand). FlowControl d) (flow-of c)) m l
 body-back (Screen PopupMessageStart) n b room x y l m h = popup-back n b y l m
 body-back (Screen (SelectionReturnValue v r)) n b room x y l m h = return-reads v r n b x m l
 body-back (Ack a) n b room x y l m h =
     let d = made-stands 52 55 n b m l (omega arith) in
     let t = take n b in
-    let g = subst (λ (w : List ℕ). readAck w ≡ got (ackSays a t)) (append-nil (writeItems ackItems (ackSays a t))) (ack-back room a t [] h (d .1 .0) (rw (d .1 .1 .0) (d .0)) (x .0) (x .1)) in
+    let g = subst (λ (w : List ℕ). readAck w ≡ got (ackSays a t)) (append-nil (writeItems ackItems (ackSays a t)))
+    (ack-back room a t [] h (d .1 .0) (rw (d .1 .1 .0) (d .0)) (x .0) (x .1)) in
     (ap (λ (x : Answer (List (List ℕ))). andThen x (λ vs. got (ackWithStored vs))) g, (d .1 .1 .0, d .1 .1 .1))
 
 -- ---- what lets a command through

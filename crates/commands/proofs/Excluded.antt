@@ -112,4 +112,6 @@ module _ (κs : Lfts 1) where
       omega arith
 
   pub counts-other : (c : DirectCommands) (s s' : List ℕ) (n : ℕ) → (n ≡ length (payloadOf c) → ⊥) → Leaves c s (Count n) s' → ⊥
-  counts-other c s s' n other h = other (free (stopWriting c (length s)) n (length (payloadOf c)) (out-told (Count n) (stopWriting c (length s)) (length (payloadOf c)) (writes c s s' (Count n) h .0)) .1)
+  counts-other c s s' n other h = other
+      (free (stopWriting c (length s)) n (length (payloadOf c))
+      (out-told (Count n) (stopWriting c (length s)) (length (payloadOf c)) (writes c s s' (Count n) h .0)) .1)

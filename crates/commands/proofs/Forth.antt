@@ -59,10 +59,13 @@ with-stored-is a b h = cc
 
 -- ---- a body of a sheet
 abbrev Says : List Row → (List Row → ℕ → Said → ℕ) → ℕ → CommandPayload → Said → Type 0
-Says rows stop id p b = (familyId p ≡ id) × ((bodyOf p [] ≡ writeBody rows b) × (((room : ℕ) → stopBody p [] room ≡ stop rows room b) × (madeBeside p 0 (padded 55 []) ≡ true)))
+Says rows stop id p b =
+    (familyId p ≡ id) × ((bodyOf p [] ≡ writeBody rows b)
+    × (((room : ℕ) → stopBody p [] room ≡ stop rows room b) × (madeBeside p 0 (padded 55 []) ≡ true)))
 
 abbrev Free : List Row → (List Row → ℕ → Said → ℕ) → Type 0
-Free rows stop = (room sub : ℕ) (vs : List (List ℕ)) → okItems (itemsOf rows sub) vs ≡ true → length (writeBody rows (said sub vs)) ≤ room → stop rows room (said sub vs) ≡ 0
+Free rows stop = (room sub : ℕ) (vs : List (List ℕ)) → okItems (itemsOf rows sub) vs ≡ true
+    → length (writeBody rows (said sub vs)) ≤ room → stop rows room (said sub vs) ≡ 0
 
 plain-forth : (rows : List Row) (stop : List Row → ℕ → Said → ℕ) (id : ℕ) (payload : Said → CommandPayload) → Free rows stop
     → ((sub : ℕ) (vs : List (List ℕ)) → hasRow rows sub ≡ true → okItems (itemsOf rows sub) vs ≡ true → Says rows stop id (payload (said sub vs)) (said sub vs))
@@ -73,7 +76,9 @@ plain-forth rows stop id payload free says s k h =
     let sub = g .0 in
     let vs = g .1 .0 in
     let y = says sub vs (g .1 .1 .1 .0) (g .1 .1 .1 .1 .0) in
-    let e : k ≡ withStored (payload (said sub vs)) [] = sym (with-stored-is (withStored (payload (p .0)) []) k (p .1 .1)) ∙ ap (λ (b : Said). withStored (payload b) []) (g .1 .1 .0) in
+    let e : k ≡ withStored (payload (said sub vs)) [] =
+    sym (with-stored-is (withStored (payload (p .0)) []) k (p .1 .1)) ∙ ap (λ (b : Said). withStored (payload b) [])
+    (g .1 .1 .0) in
     rw e (y .0, (y .1 .1 .1, (rw (y .1 .0) (g .1 .1 .1 .1 .1), λ room l. y .1 .1 .0 room ∙ free room sub vs (g .1 .1 .1 .1 .0) (rw (y .1 .0) at l))))
 
 -- ---- 0x22 Screen
@@ -134,13 +139,70 @@ pub family-forth : (id : ℕ) (s : List ℕ) (k : WithStored) → Bytes s → re
 family-forth id s k y h =
     either id 0x03 _ _ k (Writable s id k) h (λ e d. absurd (never 4 k d)) (λ h.
     either id 0x13 _ _ k (Writable s id k) h (λ e d. absurd (never 4 k d)) (λ h.
-    either id 0x01 _ _ k (Writable s id k) h (λ e d. rw e (plain-forth fcRows stopInOrder 0x01 (λ b. Fc (fcOf b)) (in-order-free fcRows) (λ sub vs r o. let q = fc-said sub vs r o in (refl, (ap (λ (b : Said). writeBody fcRows b) q, (λ room. ap (λ (b : Said). stopInOrder fcRows room b) q, refl)))) s k d)) (λ h.
-    either id 0x05 _ _ k (Writable s id k) h (λ e d. rw e (plain-forth osdRows stopInOrder 0x05 (λ b. Osd (osdOf b)) (in-order-free osdRows) (λ sub vs r o. let q = osd-said sub vs r o in (refl, (ap (λ (b : Said). writeBody osdRows b) q, (λ room. ap (λ (b : Said). stopInOrder osdRows room b) q, refl)))) s k d)) (λ h.
-    either id 0x08 _ _ k (Writable s id k) h (λ e d. rw e (plain-forth vtxRows stopValuesFirst 0x08 (λ b. Vtx (vtxOf b)) (values-first-free vtxRows) (λ sub vs r o. let q = vtx-said sub vs r o in (refl, (ap (λ (b : Said). writeBody vtxRows b) q, (λ room. ap (λ (b : Said). stopValuesFirst vtxRows room b) q, refl)))) s k d)) (λ h.
-    either id 0x09 _ _ k (Writable s id k) h (λ e d. rw e (plain-forth ledRows stopInOrder 0x09 (λ b. Led (ledOf b)) (in-order-free ledRows) (λ sub vs r o. let q = led-said sub vs r o in (refl, (ap (λ (b : Said). writeBody ledRows b) q, (λ room. ap (λ (b : Said). stopInOrder ledRows room b) q, refl)))) s k d)) (λ h.
-    either id 0x0A _ _ k (Writable s id k) h (λ e d. rw e (plain-forth generalRows stopInOrder 0x0A (λ b. General (generalOf b)) (in-order-free generalRows) (λ sub vs r o. let q = general-said sub vs r o in (refl, (ap (λ (b : Said). writeBody generalRows b) q, (λ room. ap (λ (b : Said). stopInOrder generalRows room b) q, refl)))) s k d)) (λ h.
-    either id 0x10 _ _ k (Writable s id k) h (λ e d. rw e (plain-forth crossfireRows stopInOrder 0x10 (λ b. Crossfire (crossfireOf b)) (in-order-free crossfireRows) (λ sub vs r o. let q = crossfire-said sub vs r o in (refl, (ap (λ (b : Said). writeBody crossfireRows b) q, (λ room. ap (λ (b : Said). stopInOrder crossfireRows room b) q, refl)))) s k d)) (λ h.
-    either id 0x20 _ _ k (Writable s id k) h (λ e d. rw e (plain-forth flowRows stopInOrder 0x20 (λ b. FlowControl (flowOf b)) (in-order-free flowRows) (λ sub vs r o. let q = flow-said sub vs r o in (refl, (ap (λ (b : Said). writeBody flowRows b) q, (λ room. ap (λ (b : Said). stopInOrder flowRows room b) q, refl)))) s k d)) (λ h.
+    either id 0x01 _ _ k (Writable s id k) h
+    (λ e d. rw e (plain-forth fcRows stopInOrder 0x01 (λ b. Fc (fcOf b)) (in-order-free fcRows)
+    (λ sub vs r o. let q = fc-said sub vs r o in (
+      refl,
+      (
+        ap (λ (b : Said). writeBody fcRows b) q,
+        (λ room. ap (λ (b : Said). stopInOrder fcRows room b) q, refl),
+      ),
+    )) s k d)) (λ h.
+    either id 0x05 _ _ k (Writable s id k) h
+    (λ e d. rw e (plain-forth osdRows stopInOrder 0x05 (λ b. Osd (osdOf b)) (in-order-free osdRows)
+    (λ sub vs r o. let q = osd-said sub vs r o in (
+      refl,
+      (
+        ap (λ (b : Said). writeBody osdRows b) q,
+        (λ room. ap (λ (b : Said). stopInOrder osdRows room b) q, refl),
+      ),
+    )) s k d)) (λ h.
+    either id 0x08 _ _ k (Writable s id k) h
+    (λ e d. rw e (plain-forth vtxRows stopValuesFirst 0x08 (λ b. Vtx (vtxOf b)) (values-first-free vtxRows)
+    (λ sub vs r o. let q = vtx-said sub vs r o in (
+      refl,
+      (
+        ap (λ (b : Said). writeBody vtxRows b) q,
+        (λ room. ap (λ (b : Said). stopValuesFirst vtxRows room b) q, refl),
+      ),
+    )) s k d)) (λ h.
+    either id 0x09 _ _ k (Writable s id k) h
+    (λ e d. rw e (plain-forth ledRows stopInOrder 0x09 (λ b. Led (ledOf b)) (in-order-free ledRows)
+    (λ sub vs r o. let q = led-said sub vs r o in (
+      refl,
+      (
+        ap (λ (b : Said). writeBody ledRows b) q,
+        (λ room. ap (λ (b : Said). stopInOrder ledRows room b) q, refl),
+      ),
+    )) s k d)) (λ h.
+    either id 0x0A _ _ k (Writable s id k) h
+    (λ e d. rw e (plain-forth generalRows stopInOrder 0x0A (λ b. General (generalOf b)) (in-order-free generalRows)
+    (λ sub vs r o. let q = general-said sub vs r o in (
+      refl,
+      (
+        ap (λ (b : Said). writeBody generalRows b) q,
+        (λ room. ap (λ (b : Said). stopInOrder generalRows room b) q, refl),
+      ),
+    )) s k d)) (λ h.
+    either id 0x10 _ _ k (Writable s id k) h
+    (λ e d. rw e (plain-forth crossfireRows stopInOrder 0x10 (λ b. Crossfire (crossfireOf b))
+    (in-order-free crossfireRows)
+    (λ sub vs r o. let q = crossfire-said sub vs r o in (
+      refl,
+      (
+        ap (λ (b : Said). writeBody crossfireRows b) q,
+        (λ room. ap (λ (b : Said). stopInOrder crossfireRows room b) q, refl),
+      ),
+    )) s k d)) (λ h.
+    either id 0x20 _ _ k (Writable s id k) h
+    (λ e d. rw e (plain-forth flowRows stopInOrder 0x20 (λ b. FlowControl (flowOf b)) (in-order-free flowRows)
+    (λ sub vs r o. let q = flow-said sub vs r o in (
+      refl,
+      (
+        ap (λ (b : Said). writeBody flowRows b) q,
+        (λ room. ap (λ (b : Said). stopInOrder flowRows room b) q, refl),
+      ),
+    )) s k d)) (λ h.
     either id 0x22 _ _ k (Writable s id k) h (λ e d. rw e (screen-forth s k y d)) (λ h.
     either id 0xFF _ _ k (Writable s id k) h (λ e d. rw e (ack-forth s k d)) (λ h. absurd (never 2 k h))))))))))))
 
@@ -156,7 +218,8 @@ room-enough k n h l = by (leb n 60) refl
 abbrev pub CanBeWritten : ℕ → DirectCommands → Type 0
 CanBeWritten l c = (made c ≡ true) × ((length (payloadOf c) ≤ l) × ((n : ℕ) → length (payloadOf c) ≤ n → stopWriting c n ≡ 0))
 
-of-stored : (p : List ℕ) (dst src id : ℕ) (k : WithStored) → 4 ≤ length p → length p ≤ 60 → Writable (bodyIn p) id k → CanBeWritten (length p) (commandOf dst src k)
+of-stored : (p : List ℕ) (dst src id : ℕ) (k : WithStored) → 4 ≤ length p → length p ≤ 60 → Writable (bodyIn p) id k
+    → CanBeWritten (length p) (commandOf dst src k)
 of-stored p dst src id (withStored q t) g l w =
     let c : DirectCommands = commandOf dst src (withStored q t) in
     let s : length (bodyIn p) ≡ length p - 4 = length-take-le (length p - 4) (drop 3 p) (rw (length-drop 3 p) (omega arith)) in
@@ -166,7 +229,8 @@ of-stored p dst src id (withStored q t) g l w =
       (
         omega (arith, n, s, w .1 .1 .0),
         λ room h.
-            let f : stopBody q t (roomOf room) ≡ 0 = w .1 .1 .1 (roomOf room) (room-enough (length (bodyOf q t)) room (omega (arith, n, h)) (omega (arith, s, w .1 .1 .0))) in
+            let f : stopBody q t (roomOf room) ≡ 0 = w .1 .1 .1 (roomOf room)
+            (room-enough (length (bodyOf q t)) room (omega (arith, n, h)) (omega (arith, s, w .1 .1 .0))) in
             rw (stop-is c room, w .1 .0, le-ltb room 4 (omega (arith, n, h)), e, f),
       ),
     )
@@ -175,8 +239,11 @@ there : (p : List ℕ) (c : DirectCommands) → Bytes p → readCommand p ≡ go
 there p c y h =
     let r = read-parts p c h in
     let k = r .body in
-    let w = family-forth (getD p 2 0) (bodyIn p) (k .0) (bytes-take (length p - 4) (drop 3 p) (bytes-drop 3 p y)) (k .1 .0) in
-    (r .most, subst (λ (x : DirectCommands). CanBeWritten (length p) x) (k .1 .1) (of-stored p (getD p 0 0) (getD p 1 0) (getD p 2 0) (k .0) (r .least) (r .most) w))
+    let w = family-forth (getD p 2 0) (bodyIn p) (k .0) (bytes-take (length p - 4) (drop 3 p) (bytes-drop 3 p y)) (k .1 .0) in (
+      r .most,
+      subst (λ (x : DirectCommands). CanBeWritten (length p) x) (k .1 .1)
+          (of-stored p (getD p 0 0) (getD p 1 0) (getD p 2 0) (k .0) (r .least) (r .most) w),
+    )
 
 -- THE LAW
 pub read-writable : (p : List ℕ) (c : DirectCommands) → Bytes p → readCommand p ≡ got c → CanBeWritten (length p) c

@@ -76,7 +76,9 @@ judged p = by (ltb (length p) 4) (ltb 60 (length p)) (eqb (checkIn p) (payloadCh
   where
     by : (a b e : Bool) → ltb (length p) 4 ≡ a → ltb 60 (length p) ≡ b → eqb (checkIn p) (payloadCheck p) ≡ e
         → stopReading p ≡ pick a 1 (pick b 1 (pick e 0 2))
-        → readCommand p ≡ pick a (refused 1 0) (pick b (refused 1 0) (pick e (readAs (getD p 0 0) (getD p 1 0) (getD p 2 0) (bodyIn p)) (refused 2 0))) → Judged p
+        → readCommand p ≡ pick a (refused 1 0)
+        (pick b (refused 1 0) (pick e (readAs (getD p 0 0) (getD p 1 0) (getD p 2 0) (bodyIn p)) (refused 2 0)))
+        → Judged p
     by true b e i j k s r = stopped (omega arith) (rw s r)
     by false true e i j k s r = stopped (omega arith) (rw s r)
     by false false false i j k s r = stopped (omega arith) (rw s r)
@@ -114,6 +116,7 @@ accepted-is a x o h e =
     z .1 ∙ ap (λ (c : DirectCommands). got c) (sym i)
 
 -- one that refuses, its number
-pub refused-is : (a : Answer DirectCommands) (x : CommandAnswer) (why : Refusal) → CommandIs a x → x .outcome ≡ Refused why → (p : ℕ) × (a ≡ refused (refusalNumber why) p)
+pub refused-is : (a : Answer DirectCommands) (x : CommandAnswer) (why : Refusal) → CommandIs a x → x .outcome ≡ Refused
+    why → (p : ℕ) × (a ≡ refused (refusalNumber why) p)
 refused-is (got c) x why h e = let l = refusal-some why in let z : refusalNumber why ≡ 0 = sym (ap outcomeNumber e) ∙ h .0 in absurd (omega arith)
 refused-is (refused n p) x why h e = (p, ap (λ (k : ℕ). refused k p) (sym (h .0) ∙ ap outcomeNumber e))

@@ -59,4 +59,14 @@ pub read-payload : (c : DirectCommands) → length (bodyOf (c .payload) (storedI
     → readCommand (payloadOf c) ≡ readAs (c .«dst_addr») (c .«src_addr») (familyId (c .payload)) (bodyOf (c .payload) (storedIn c))
 read-payload c h =
     let l = payload-length c in
-    rw (read-is (payloadOf c), le-ltb (length (payloadOf c)) 4 (omega arith), le-ltb 60 (length (payloadOf c)) (omega arith), eq-eqb (checkIn (payloadOf c)) (payloadCheck (payloadOf c)) (payload-check-is c), destination-is c, source-is c, id-is c, body-is c)
+    rw (
+      read-is (payloadOf c),
+      le-ltb (length (payloadOf c)) 4 (omega arith),
+      le-ltb 60 (length (payloadOf c))
+          (omega arith),
+      eq-eqb (checkIn (payloadOf c)) (payloadCheck (payloadOf c)) (payload-check-is c),
+      destination-is c,
+      source-is c,
+      id-is c,
+      body-is c,
+    )

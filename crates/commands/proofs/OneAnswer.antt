@@ -22,6 +22,8 @@ use Rattle.commands.proofs.DirectCommands.from_bytes.Reads as read
 use Rattle.commands.proofs.DirectCommands.from_bytes.Kinds as read-kinds
 use Rattle.commands.proofs.DirectCommands.to_bytes.Reads as write
 use Rattle.commands.proofs.DirectCommands.to_bytes.Kinds as write-kinds
+use Rattle.commands.proofs.DirectCommands.written_len.Reads as len
+use Rattle.commands.proofs.DirectCommands.written_len.Kinds as len-kinds
 use Rattle.commands.proofs.kind.read.Reads as kind-read
 use Rattle.commands.proofs.kind.read.Kinds as kind-read-kinds
 
@@ -50,6 +52,11 @@ pub kind-told : (r : KindRead) → kindTold (toldKind r) ≡ r
 kind-told (Got p n) = refl
 kind-told (Refused r) = ap Refused (refusal-back r)
 
-pub kind-one : (κs : Lfts 1) (a : Dens κs kind-read-kinds.ps) (x y : resT kind-read-kinds.r κs .Denot) (s t : AtExit (endedOf 1 kind-read-kinds.ps kind-read-kinds.r) κs)
+pub kind-one : (κs : Lfts 1) (a : Dens κs kind-read-kinds.ps) (x y : resT kind-read-kinds.r κs .Denot)
+    (s t : AtExit (endedOf 1 kind-read-kinds.ps kind-read-kinds.r) κs)
     → kind-read.Post κs a x s → kind-read.Post κs a y t → x ≡ y
 kind-one κs a x y s t p q = sym (kind-told x) ∙ ap kindTold (p ∙ sym q) ∙ kind-told y
+
+pub written-len-one : (κs : Lfts 0) (a : Dens κs len-kinds.ps) (x y : resT len-kinds.r κs .Denot) (s t : AtExit (endedOf 0 len-kinds.ps len-kinds.r) κs)
+    → len.Post κs a x s → len.Post κs a y t → x ≡ y
+written-len-one κs a x y s t p q = p ∙ sym q

@@ -99,9 +99,11 @@ said-laid rs (said sub vs) h =
 pub popup-in : (q : Popup) → okPopup q ≡ true → length (writePopup q) ≤ 55 → popupIn (writePopup q) ≡ q
 popup-in (popup k p vs) o l =
     let t = passed (alone k p) (okItems (popupItems k p) vs) o in
-    ap (λ (a : Answer ScreenPopupFields). popupSays (valueIn blankFields a)) (inspect-of k p vs o l) ∙ says-fields k p vs (each-of (popupItems k p) vs (t .1)) (t .0)
+    ap (λ (a : Answer ScreenPopupFields). popupSays (valueIn blankFields a)) (inspect-of k p vs o l)
+    ∙ says-fields k p vs (each-of (popupItems k p) vs (t .1)) (t .0)
 
-pub popup-stored : (n : ℕ) (b : List ℕ) → Bytes b → length b ≡ 55 → madePopup (record { len = n; bytes = b }) ≡ true → writePopup (popupIn (take n b)) ≡ take n b
+pub popup-stored : (n : ℕ) (b : List ℕ) → Bytes b → length b ≡ 55 → madePopup (record { len = n; bytes = b }) ≡ true
+    → writePopup (popupIn (take n b)) ≡ take n b
 popup-stored n b y l m =
     let q : ScreenPopup = record { len = n; bytes = b } in
     let d = made-decided q y l m in
@@ -133,7 +135,8 @@ body-laid (Screen (SelectionReturnValue value response)) n b y l m h = said-laid
 body-laid (Ack a) n b y l m h = refl
 
 -- THE layout: items in the order of 01, then the check
-pub payload-laid : (c : DirectCommands) → okItems (bodyItems (c .payload) (storedIn c)) (bodyValues (c .payload) (storedIn c)) ≡ true → made c ≡ true → Bytes (c .bytes)
+pub payload-laid : (c : DirectCommands) → okItems (bodyItems (c .payload) (storedIn c))
+    (bodyValues (c .payload) (storedIn c)) ≡ true → made c ≡ true → Bytes (c .bytes)
     → length (c .bytes) ≡ 55 → payloadOf c ≡ itemsLaid c ++ checkOf commandPolynomial (0x32 ∷ itemsLaid c) ∷ []
 payload-laid c o m y l =
     payload-is c ∙ ap (λ (w : List ℕ). checked (c .«dst_addr» ∷ c .«src_addr» ∷ familyId (c .payload) ∷ w)) (body-laid (c .payload) (c .len) (c .bytes) y l m o)
@@ -165,7 +168,8 @@ every-of test (row k is ∷ rs) sub e h =
 plain-bytes : (is : List Item) (vs : List (List ℕ)) → plainItems is ≡ true → Bytes (writeItems is vs)
 plain-bytes [] vs h = tt
 plain-bytes (i ∷ is) [] h = tt
-plain-bytes (packed w fs ∷ is) (v ∷ vs) h = bytes-append (bytesOf w (join (widths fs) v)) (writeItems is vs) (digit-bytes w (join (widths fs) v)) (plain-bytes is vs h)
+plain-bytes (packed w fs ∷ is) (v ∷ vs) h = bytes-append (bytesOf w (join (widths fs) v)) (writeItems is vs)
+    (digit-bytes w (join (widths fs) v)) (plain-bytes is vs h)
 plain-bytes (text least most ∷ is) (v ∷ vs) h = let z : _≡_ {A = ℕ} 0 1 = cc in absurd (omega arith)
 
 said-bytes : (rs : List Row) (b : Said) → everyRow plainItems rs ≡ true → known rs b ≡ true → Bytes (writeBody rs b)
@@ -215,11 +219,13 @@ sound-bytes c z = payload-bytes c (z .destination) (z .source) (z .stored)
 said-free : (rs : List Row) (room : ℕ) (b : Said) → okItems (saidItems rs b) (saidValues b) ≡ true → length (writeBody rs b) ≤ room → stopInOrder rs room b ≡ 0
 said-free rs room (said sub vs) h l = in-order-free rs room sub vs (both (okItem byte (sub ∷ [])) (okItems (itemsOf rs sub) vs) h .1) l
 
-said-free-first : (rs : List Row) (room : ℕ) (b : Said) → okItems (saidItems rs b) (saidValues b) ≡ true → length (writeBody rs b) ≤ room → stopValuesFirst rs room b ≡ 0
+said-free-first : (rs : List Row) (room : ℕ) (b : Said) → okItems (saidItems rs b) (saidValues b) ≡ true
+    → length (writeBody rs b) ≤ room → stopValuesFirst rs room b ≡ 0
 said-free-first rs room (said sub vs) h l = values-first-free rs room sub vs (both (okItem byte (sub ∷ [])) (okItems (itemsOf rs sub) vs) h .1) l
 
 -- the three numbers of an ACK
-ack-in : (a : CommandAck) (t : List ℕ) → okItems ackItems (ackSays a t) ≡ true → (a .«command_id» < 256) × ((a .«sub_command_id» < 256) × (actionOk (ackSays a t) ≡ true))
+ack-in : (a : CommandAck) (t : List ℕ) → okItems ackItems (ackSays a t) ≡ true
+    → (a .«command_id» < 256) × ((a .«sub_command_id» < 256) × (actionOk (ackSays a t) ≡ true))
 ack-in a t h =
     let x = both (okItem byte (a .«command_id» ∷ [])) (okItems (byte ∷ flag ∷ text 0 52 ∷ []) ((a .«sub_command_id» ∷ []) ∷ (a .action ∷ []) ∷ t ∷ [])) h in
     let y = both (okItem byte (a .«sub_command_id» ∷ [])) (okItems (flag ∷ text 0 52 ∷ []) ((a .action ∷ []) ∷ t ∷ [])) (x .1) in
@@ -254,12 +260,14 @@ typed-in (General c) t h = tt
 typed-in (Crossfire c) t h = tt
 typed-in (FlowControl c) t h = tt
 typed-in (Screen PopupMessageStart) t h = tt
-typed-in (Screen (SelectionReturnValue value response)) t h = byte-of value (both (okItem byte (value ∷ [])) (okItems (flag ∷ []) ((bit response ∷ []) ∷ [])) h .0)
+typed-in (Screen (SelectionReturnValue value response)) t h = byte-of value
+    (both (okItem byte (value ∷ [])) (okItems (flag ∷ []) ((bit response ∷ []) ∷ [])) h .0)
 typed-in (Ack a) t h = let x = ack-in a t h in (x .0, x .1 .0)
 
 pub sound-back : (c : DirectCommands) → Sound c → readCommand (payloadOf c) ≡ got c
 sound-back c z =
-    written-back c (length (payloadOf c)) (typed-in (c .payload) (storedIn c) (z .inRange), (z .stored, z .size)) (sound-accepted c z (length (payloadOf c)) (omega arith))
+    written-back c (length (payloadOf c)) (typed-in (c .payload) (storedIn c) (z .inRange), (z .stored, z .size))
+    (sound-accepted c z (length (payloadOf c)) (omega arith))
 
 -- ---- bit 7 of a pit byte "is written 0 and ignored on reading"
 abbrev pub PitByte : VtxCommand → List ℕ → Type 0
@@ -282,7 +290,10 @@ PitClear (Ack a) p = Unit {0}
 
 pit-low : (switch control mode : ℕ) → okItem pit (switch ∷ control ∷ mode ∷ []) ≡ true → (switch * 8 + (control * 2 + (mode * 1 + 0))) / 1 % 256 < 128
 pit-low switch control mode h =
-    let a = passed (ltb switch 0) (pick (ltb 15 switch) false (pick (ltb control 0) false (pick (ltb 3 control) false (pick (ltb mode 0) false (pick (ltb 1 mode) false true))))) h in
+    let a = passed (ltb switch 0)
+    (pick (ltb 15 switch) false
+    (pick (ltb control 0) false
+    (pick (ltb 3 control) false (pick (ltb mode 0) false (pick (ltb 1 mode) false true))))) h in
     let b = passed (ltb 15 switch) (pick (ltb control 0) false (pick (ltb 3 control) false (pick (ltb mode 0) false (pick (ltb 1 mode) false true)))) (a .1) in
     let c = passed (ltb control 0) (pick (ltb 3 control) false (pick (ltb mode 0) false (pick (ltb 1 mode) false true))) (b .1) in
     let d = passed (ltb 3 control) (pick (ltb mode 0) false (pick (ltb 1 mode) false true)) (c .1) in
@@ -296,7 +307,8 @@ clear-by : (dst src : ℕ) (p : CommandPayload) (t : List ℕ) → okItems (body
 clear-by dst src (Fc c) t h = tt
 clear-by dst src (Osd c) t h = tt
 clear-by dst src (Vtx (SetFrequency f)) t h = tt
-clear-by dst src (Vtx (EnablePitModeOnPowerUp mode control switch)) t h = pit-low switch control (bit mode) (both (okItem pit (switch ∷ control ∷ bit mode ∷ [])) true h .0)
+clear-by dst src (Vtx (EnablePitModeOnPowerUp mode control switch)) t h = pit-low switch control (bit mode)
+    (both (okItem pit (switch ∷ control ∷ bit mode ∷ [])) true h .0)
 clear-by dst src (Vtx PowerUpFromPitMode) t h = tt
 clear-by dst src (Vtx (SetDynamicPower n)) t h = tt
 clear-by dst src (Vtx (SetPower n)) t h = tt
@@ -369,7 +381,8 @@ sheet-read rs says of c s b law h e =
 read-ok : (is : List Item) (vs : List (List ℕ)) (s : List ℕ) → readItems is s 0 ≡ got vs → okItems is vs ≡ true
 read-ok is vs s h = items-there is s 0 vs (omega arith) h .0
 
-said-front : (rs : List Row) (b : Said) (s : List ℕ) → everyRow exactItems rs ≡ true → Bytes s → readItems (saidItems rs b) s 0 ≡ got (saidValues b) → InFront (saidItems rs b) (saidValues b) s
+said-front : (rs : List Row) (b : Said) (s : List ℕ) → everyRow exactItems rs ≡ true → Bytes s
+    → readItems (saidItems rs b) s 0 ≡ got (saidValues b) → InFront (saidItems rs b) (saidValues b) s
 said-front rs (said sub vs) s x y h = items-forth (byte ∷ itemsOf rs sub) s 0 ((sub ∷ []) ∷ vs) (every-of exactItems rs sub refl x) y h
 
 sheet-stands : {C : Type 0} (rs : List Row) (says : C → Said) (of : Said → C) (c : C) (t s : List ℕ) (b : Said)
@@ -381,7 +394,8 @@ sheet-stands rs says of c t s b law x y h e f =
     (read-ok (saidItems rs (says c)) (saidValues (says c)) s r, (no-bytes t f, λ z. said-front rs (says c) s x y r))
 
 -- ---- 0x08 VTX: the pit byte
-low-front : (w : ℕ) (fs : List Field) (s v : List ℕ) → Bytes s → numberOf (take w s) < 2 ^ sum (widths fs) → readItem (packed w fs) s ≡ got v → take w s ≡ itemBytes (packed w fs) v
+low-front : (w : ℕ) (fs : List Field) (s v : List ℕ) → Bytes s → numberOf (take w s) < 2 ^ sum (widths fs)
+    → readItem (packed w fs) s ≡ got v → take w s ≡ itemBytes (packed w fs) v
 low-front w fs s v y m h =
     let t = item-there (packed w fs) s v h in
     let n = bytes-number (take w s) w (length-take-le w s (t .1 .0)) (bytes-take w s y) in
@@ -391,7 +405,9 @@ pit-front : (s v : List ℕ) → Bytes s → getD s 0 0 < 128 → readItem pit s
 pit-front [] v y l h = let n = item-there pit [] v h .1 .0 in absurd (omega arith)
 pit-front (x ∷ r) v y l h = low-front 1 (field 4 0 15 ∷ field 2 0 3 ∷ field 1 0 1 ∷ []) (x ∷ r) v y (omega arith) h
 
-two : (a b : Answer (List ℕ)) (v w : List ℕ) → andThen a (λ x. andThen (andThen b (λ y. got (y ∷ []))) (λ ws. got (x ∷ ws))) ≡ got (v ∷ w ∷ []) → (a ≡ got v) × (b ≡ got w)
+two : (a b : Answer (List ℕ)) (v w : List ℕ)
+    → andThen a (λ x. andThen (andThen b (λ y. got (y ∷ []))) (λ ws. got (x ∷ ws))) ≡ got (v ∷ w ∷ [])
+    → (a ≡ got v) × (b ≡ got w)
 two (got x) (got y) v w h = (cc, cc)
 two (got x) (refused n m) v w h = let z : _≡_ {A = ℕ} 0 1 = cc in absurd (omega arith)
 two (refused n m) b v w h = let z : _≡_ {A = ℕ} 0 1 = cc in absurd (omega arith)
@@ -423,18 +439,23 @@ start-stands s q y h =
     let i = popup-in q (f .0) (x .1 .1) in
     let n = length (writePopup q) in
     let j : suc n ≡ 1 + n = omega arith in
-    let t : take (1 + n) s ≡ 0x01 ∷ writePopup q = take-add 1 n s ∙ (ap (λ (l : List ℕ). l ++ take n (drop 1 s)) d ∙ ap (λ (l : List ℕ). 0x01 ∷ l) (f .1 .1)) in (
+    let t : take (1 + n) s ≡ 0x01 ∷ writePopup q = take-add 1 n s
+    ∙ (ap (λ (l : List ℕ). l ++ take n (drop 1 s)) d ∙ ap (λ (l : List ℕ). 0x01 ∷ l) (f .1 .1)) in (
       subst (λ (r : Popup). okItems (startItems r) (startValues r) ≡ true) (sym i) (start-ok q (f .0)),
       (
         (subst Bytes (f .1 .1) (bytes-take n (drop 1 s) (bytes-drop 1 s y)), x .1 .1),
-        λ z. subst (λ (r : Popup). InFront (startItems r) (startValues r) s) (sym i) (subst (λ (l : List ℕ). take (length l) s ≡ l) (start-laid q) (ap (λ (m : ℕ). take m s) j ∙ t)),
+        λ z. subst (λ (r : Popup). InFront (startItems r) (startValues r) s) (sym i)
+            (subst (λ (l : List ℕ). take (length l) s ≡ l) (start-laid q) (ap (λ (m : ℕ). take m s) j ∙ t)),
       ),
     )
 
 return-by : (s t : List ℕ) (value : ℕ) (response : Bool) → Bytes s → [] ≡ t
-    → readItems (saidItems screenRows (returnSays value response)) s 0 ≡ got (saidValues (returnSays value response)) → Stands (Screen (SelectionReturnValue value response)) t s
-return-by s t value response y e h =
-    (read-ok (saidItems screenRows (returnSays value response)) (saidValues (returnSays value response)) s h, (no-bytes t e, λ z. said-front screenRows (returnSays value response) s refl y h))
+    → readItems (saidItems screenRows (returnSays value response)) s 0 ≡ got (saidValues (returnSays value response))
+    → Stands (Screen (SelectionReturnValue value response)) t s
+return-by s t value response y e h = (
+  read-ok (saidItems screenRows (returnSays value response)) (saidValues (returnSays value response)) s h,
+  (no-bytes t e, λ z. said-front screenRows (returnSays value response) s refl y h),
+)
 
 return-of : (s t : List ℕ) (b : Said) (sub : ℕ) (vs : List (List ℕ)) → Bytes s → [] ≡ t → b ≡ said sub vs → hasRow screenRows sub ≡ true
     → readItems (byte ∷ itemsOf screenRows sub) s 0 ≡ got ((sub ∷ []) ∷ vs) → Stands (Screen (returnOf b)) t s
@@ -478,7 +499,8 @@ ack-stands s vs y h =
     ack-by s (ackOf vs) (getD vs 3 []) y (r .0 ∙ ap (λ (ws : List (List ℕ)). got ws) f) (subst (λ (ws : List (List ℕ)). actionOk ws ≡ true) f (r .1))
 
 -- ---- of every family
-screen-by : (s : List ℕ) (c : ScreenCommand) (t : List ℕ) (q : ScreenSaid) → Bytes s → readScreen s ≡ got q → screenWithStored q ≡ withStored (Screen c) t → Stands (Screen c) t s
+screen-by : (s : List ℕ) (c : ScreenCommand) (t : List ℕ) (q : ScreenSaid) → Bytes s → readScreen s ≡ got q
+    → screenWithStored q ≡ withStored (Screen c) t → Stands (Screen c) t s
 screen-by s c t (started q) y h e =
     let f : PopupMessageStart ≡ c = cc in
     let g : writePopup q ≡ t = cc in
@@ -529,13 +551,29 @@ Told p c =
     × ((getD p 2 0 ≡ familyId (c .payload))
     × (Stands (c .payload) (storedIn c) (bodyIn p) × (Bytes (c .bytes) × (length (c .bytes) ≡ 55)))))
 
-told-by : (p : List ℕ) (q : CommandPayload) (t : List ℕ) → Bytes p → readFamily (getD p 2 0) (bodyIn p) ≡ got (withStored q t) → Told p (commandOf (getD p 0 0) (getD p 1 0) (withStored q t))
+told-by : (p : List ℕ) (q : CommandPayload) (t : List ℕ) → Bytes p → readFamily (getD p 2 0) (bodyIn p) ≡ got
+    (withStored q t) → Told p (commandOf (getD p 0 0) (getD p 1 0) (withStored q t))
 told-by p q t y h =
     let z : Bytes (bodyIn p) = bytes-take (length p - 4) (drop 3 p) (bytes-drop 3 p y) in
     let i : getD p 2 0 ≡ familyId q = sym (family-forth (getD p 2 0) (bodyIn p) (withStored q t) z h .0) in
     let s = family-stands q t (bodyIn p) z (subst (λ (n : ℕ). readFamily n (bodyIn p) ≡ got (withStored q t)) i h) in
-    let l : length (padded 55 t) ≡ 55 = rw (length-append t (replicate (55 - length t) 0), length-replicate {A = ℕ} (55 - length t) 0) (omega (arith, s .1 .0 .1)) in
-    (refl, (refl, (i, (subst (λ (w : List ℕ). Stands q w (bodyIn p)) (sym (unpadded t)) s, (bytes-append t (replicate (55 - length t) 0) (s .1 .0 .0) (bytes-zeros (55 - length t)), l)))))
+    let l : length (padded 55 t) ≡ 55 = rw (
+      length-append t (replicate (55 - length t) 0),
+      length-replicate {A = ℕ}
+          (55 - length t) 0,
+    ) (omega (arith, s .1 .0 .1)) in (
+      refl,
+      (
+        refl,
+        (
+          i,
+          (
+            subst (λ (w : List ℕ). Stands q w (bodyIn p)) (sym (unpadded t)) s,
+            (bytes-append t (replicate (55 - length t) 0) (s .1 .0 .0) (bytes-zeros (55 - length t)), l),
+          ),
+        ),
+      ),
+    )
 
 told-of : (p : List ℕ) (k : WithStored) → Bytes p → readFamily (getD p 2 0) (bodyIn p) ≡ got k → Told p (commandOf (getD p 0 0) (getD p 1 0) k)
 told-of p (withStored q t) y h = told-by p q t y h
@@ -590,7 +628,8 @@ body-clear (Ack a') a b d k s h = tt
 checked-size : (a b d : ℕ) (s : List ℕ) → length (checked (a ∷ b ∷ d ∷ s)) ≡ length s + 4
 checked-size a b d s = rw (length-append s) (omega arith)
 
-pub as-written : (p : List ℕ) (c : DirectCommands) → Bytes p → readCommand p ≡ got c → length p ≡ length (payloadOf c) → PitClear (c .payload) p → p ≡ payloadOf c
+pub as-written : (p : List ℕ) (c : DirectCommands) → Bytes p → readCommand p ≡ got c → length p ≡ length (payloadOf c)
+    → PitClear (c .payload) p → p ≡ payloadOf c
 as-written p c y h l g =
     let r = read-parts p c h in
     let t = told p c y h in
@@ -599,7 +638,9 @@ as-written p c y h l g =
     let o = getD p 0 0 ∷ getD p 1 0 ∷ getD p 2 0 ∷ s in
     let e : p ≡ checked o = whole p (r .least) (r .check) in
     let f : payloadOf c ≡ checked (itemsLaid c) = sound-laid c (read-sound p c y h) in
-    let m : length s + 4 ≡ length w + 4 = sym (checked-size (getD p 0 0) (getD p 1 0) (getD p 2 0) s) ∙ (sym (ap length e) ∙ (l ∙ (ap length f ∙ checked-size (c .«dst_addr») (c .«src_addr») (familyId (c .payload)) w))) in
+    let m : length s + 4 ≡ length w + 4 = sym (checked-size (getD p 0 0) (getD p 1 0) (getD p 2 0) s)
+    ∙ (sym (ap length e) ∙ (l
+    ∙ (ap length f ∙ checked-size (c .«dst_addr») (c .«src_addr») (familyId (c .payload)) w))) in
     let k : length s ≤ length w = omega arith in
     let d = body-clear (c .payload) (getD p 0 0) (getD p 1 0) (getD p 2 0) (checkOf commandPolynomial (0x32 ∷ o)) s (subst (PitClear (c .payload)) e g) in
     let i : s ≡ w = sym (take-all (length w) s k) ∙ t .1 .1 .1 .0 .1 .1 d in

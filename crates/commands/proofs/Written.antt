@@ -94,7 +94,8 @@ body-refused dst src p t s q k why r h e =
     let m = mid-length s k h ∙ r in
     by (stopBody p t (roomOf (length s))) (rw m at e)
   where
-    by : (stop : ℕ) → Writes stop (bodyOf p t) (Refused why) (take k (drop 3 s)) q → Writes stop (checked (opening dst src p t)) (Refused why) s (putMid 3 k s q)
+    by : (stop : ℕ) → Writes stop (bodyOf p t) (Refused why) (take k (drop 3 s)) q
+        → Writes stop (checked (opening dst src p t)) (Refused why) s (putMid 3 k s q)
     by zero g = absurd (out-some why (length (bodyOf p t)) (g .0))
     by (suc n) g = (g .0, rw (g .1) (put-same 3 k s))
 

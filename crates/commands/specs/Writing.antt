@@ -6,6 +6,8 @@ use lib.Dec.{ltb, leb}
 use Rattle.crc.specs.Check.{commandPolynomial, checkOf}
 use Rattle.codec.specs.Pick.{pick}
 use Rattle.codec.specs.Writing.{writeItems, writeBody, stopInOrder, stopRoom, stopValuesFirst}
+use Rattle.codec.specs.Told.{Writes}
+use Rattle.codec.specs.declared.writer.Written.{Written}
 use Rattle.families.specs.Sheets.{fcRows, osdRows, vtxRows, ledRows, generalRows, crossfireRows, flowRows}
 use Rattle.families.specs.Fc.{fcSays}
 use Rattle.families.specs.Osd.{osdSays}
@@ -73,3 +75,15 @@ payloadOf c = layoutOf c
 
 pub stopWriting : DirectCommands → ℕ → ℕ
 stopWriting c n = writingOrder c n
+
+-- WRITING answers r and leaves s' of s: a body, with these bytes stored beside it
+abbrev pub WritesBody : CommandPayload → List ℕ → Written → List ℕ → List ℕ → Type 0
+WritesBody p t r s s' = Writes (stopBody p t (length s)) (bodyOf p t) r s s'
+
+-- the payload of a command that is made, in a buffer that has the four bytes around a body
+abbrev pub WritesMade : ℕ → ℕ → CommandPayload → List ℕ → Written → List ℕ → List ℕ → Type 0
+WritesMade dst src p t r s s' = Writes (stopBody p t (roomOf (length s))) (checked (opening dst src p t)) r s s'
+
+-- the payload of any command
+abbrev pub WritesCommand : DirectCommands → Written → List ℕ → List ℕ → Type 0
+WritesCommand c r s s' = Writes (stopWriting c (length s)) (payloadOf c) r s s'

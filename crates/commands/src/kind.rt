@@ -16,6 +16,17 @@ use families::flow_control::FlowControlRead;
 use families::general::GeneralRead;
 use families::led::LedRead;
 use families::osd::OsdRead;
+use families::payload::COMMAND_ID_ACK;
+use families::payload::COMMAND_ID_BLUETOOTH;
+use families::payload::COMMAND_ID_CROSSFIRE;
+use families::payload::COMMAND_ID_FC;
+use families::payload::COMMAND_ID_FLOW_CONTROL;
+use families::payload::COMMAND_ID_GENERAL;
+use families::payload::COMMAND_ID_LED;
+use families::payload::COMMAND_ID_OSD;
+use families::payload::COMMAND_ID_RC_OVER_WIFI;
+use families::payload::COMMAND_ID_SCREEN;
+use families::payload::COMMAND_ID_VTX;
 use families::payload::CommandPayload;
 use families::vtx::VtxRead;
 
@@ -59,48 +70,45 @@ fn of_ack(body: &[u8]) -> KindRead
 fn plain(payload: CommandPayload) -> KindRead
     ensures { λ r. ⌜ toldKind r ≡ got (kindWithStored (withStored payload [])) ⌝ }
 {
-    KindRead::Got {
-        payload: payload,
-        len: 0,
-    }
+    KindRead::Got { payload, len: 0 }
 }
 
 fn of_family(id: u8, body: &[u8]) -> KindRead
     ensures { λ r. ⌜ toldKind r ≡ andThen (readFamily id (now (body .entry))) (λ k. got (kindWithStored k)) ⌝ }
 {
     match id {
-        0x01 => match families::fc::read(body) {
+        COMMAND_ID_FC => match families::fc::read(body) {
             FcRead::Got(c) => plain(CommandPayload::Fc(c)),
             FcRead::Refused(r) => KindRead::Refused(r),
         },
-        0x05 => match families::osd::read(body) {
+        COMMAND_ID_OSD => match families::osd::read(body) {
             OsdRead::Got(c) => plain(CommandPayload::Osd(c)),
             OsdRead::Refused(r) => KindRead::Refused(r),
         },
-        0x08 => match families::vtx::read(body) {
+        COMMAND_ID_VTX => match families::vtx::read(body) {
             VtxRead::Got(c) => plain(CommandPayload::Vtx(c)),
             VtxRead::Refused(r) => KindRead::Refused(r),
         },
-        0x09 => match families::led::read(body) {
+        COMMAND_ID_LED => match families::led::read(body) {
             LedRead::Got(c) => plain(CommandPayload::Led(c)),
             LedRead::Refused(r) => KindRead::Refused(r),
         },
-        0x0A => match families::general::read(body) {
+        COMMAND_ID_GENERAL => match families::general::read(body) {
             GeneralRead::Got(c) => plain(CommandPayload::General(c)),
             GeneralRead::Refused(r) => KindRead::Refused(r),
         },
-        0x10 => match families::crossfire::read(body) {
+        COMMAND_ID_CROSSFIRE => match families::crossfire::read(body) {
             CrossfireRead::Got(c) => plain(CommandPayload::Crossfire(c)),
             CrossfireRead::Refused(r) => KindRead::Refused(r),
         },
-        0x20 => match families::flow_control::read(body) {
+        COMMAND_ID_FLOW_CONTROL => match families::flow_control::read(body) {
             FlowControlRead::Got(c) => plain(CommandPayload::FlowControl(c)),
             FlowControlRead::Refused(r) => KindRead::Refused(r),
         },
-        0x22 => of_screen(body),
-        0xFF => of_ack(body),
-        0x03 => KindRead::Refused(Refusal::FamilyLeftBehind),
-        0x13 => KindRead::Refused(Refusal::FamilyLeftBehind),
+        COMMAND_ID_SCREEN => of_screen(body),
+        COMMAND_ID_ACK => of_ack(body),
+        COMMAND_ID_BLUETOOTH => KindRead::Refused(Refusal::FamilyLeftBehind),
+        COMMAND_ID_RC_OVER_WIFI => KindRead::Refused(Refusal::FamilyLeftBehind),
         _ => KindRead::Refused(Refusal::InvalidPayload),
     }
 }

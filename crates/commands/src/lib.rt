@@ -3,11 +3,10 @@ ghost use mathlib.Core.Path.{_≡_};
 ghost use lib.ListN.{length};
 ghost use Rattle.codec.specs.Sheet.{refused};
 ghost use Rattle.codec.specs.Refusals.{refusalNumber, outcomeNumber};
-ghost use Rattle.codec.specs.Told.{Writes};
 ghost use Rattle.commands.specs.Command.{blankCommand};
 ghost use Rattle.commands.specs.Reading.{readCommand, CommandIs};
 ghost use Rattle.commands.specs.Kind.{stopReading};
-ghost use Rattle.commands.specs.Writing.{payloadOf, stopWriting};
+ghost use Rattle.commands.specs.Writing.{payloadOf, WritesCommand};
 use codec::refusal::Outcome;
 use codec::refusal::Refusal;
 use codec::writer::Written;
@@ -71,7 +70,7 @@ impl DirectCommands {
 
     // Into the front of the buffer, the rest of which keeps its bytes; refused, all do.
     pub fn to_bytes(self, buffer: &mut [u8]) -> Written
-        ensures { λ r. ⌜ Writes (stopWriting self (length (now (buffer .entry)))) (payloadOf self) r (now (buffer .entry)) (now (buffer .exit)) ⌝ }
+        ensures { λ r. ⌜ WritesCommand self r (now (buffer .entry)) (now (buffer .exit)) ⌝ }
     {
         let payload = self.payload;
         let bytes = self.bytes;
@@ -89,6 +88,15 @@ impl DirectCommands {
             );
         }
         Written::Refused(Refusal::RecordNotMade)
+    }
+
+    // How many bytes `to_bytes` writes, counted and not written.
+    pub fn written_len(self) -> usize
+        ensures { λ r. ⌜ r ≡ length (payloadOf self) ⌝ }
+    {
+        let payload = self.payload;
+        let bytes = self.bytes;
+        writing::body_len(payload, &bytes, self.len) + Self::MIN_PAYLOAD_SIZE
     }
 }
 

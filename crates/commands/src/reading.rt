@@ -13,6 +13,17 @@ use families::flow_control::FlowControlRead;
 use families::general::GeneralRead;
 use families::led::LedRead;
 use families::osd::OsdRead;
+use families::payload::COMMAND_ID_ACK;
+use families::payload::COMMAND_ID_BLUETOOTH;
+use families::payload::COMMAND_ID_CROSSFIRE;
+use families::payload::COMMAND_ID_FC;
+use families::payload::COMMAND_ID_FLOW_CONTROL;
+use families::payload::COMMAND_ID_GENERAL;
+use families::payload::COMMAND_ID_LED;
+use families::payload::COMMAND_ID_OSD;
+use families::payload::COMMAND_ID_RC_OVER_WIFI;
+use families::payload::COMMAND_ID_SCREEN;
+use families::payload::COMMAND_ID_VTX;
 use families::payload::CommandPayload;
 use families::vtx::VtxRead;
 
@@ -25,7 +36,7 @@ fn plain(dst: u8, src: u8, payload: CommandPayload) -> CommandAnswer
         command: DirectCommands {
             dst_addr: dst,
             src_addr: src,
-            payload: payload,
+            payload,
             len: 0,
             bytes: [0u8; 55],
         },
@@ -48,7 +59,7 @@ fn read_screen(dst: u8, src: u8, body: &[u8]) -> CommandAnswer
                 src_addr: src,
                 payload: CommandPayload::Screen(command),
                 len: popup.len,
-                bytes: bytes,
+                bytes,
             },
         },
         Outcome::Refused(r) => crate::refused_with(r),
@@ -70,7 +81,7 @@ fn read_ack(dst: u8, src: u8, body: &[u8]) -> CommandAnswer
                 src_addr: src,
                 payload: CommandPayload::Ack(ack),
                 len: read.len,
-                bytes: bytes,
+                bytes,
             },
         },
         Outcome::Refused(r) => crate::refused_with(r),
@@ -81,38 +92,38 @@ pub(crate) fn read_family(dst: u8, src: u8, id: u8, body: &[u8]) -> CommandAnswe
     ensures { λ r. ⌜ CommandIs (readAs dst src id (now (body .entry))) r ⌝ }
 {
     match id {
-        0x01 => match families::fc::read(body) {
+        COMMAND_ID_FC => match families::fc::read(body) {
             FcRead::Got(c) => plain(dst, src, CommandPayload::Fc(c)),
             FcRead::Refused(r) => crate::refused_with(r),
         },
-        0x05 => match families::osd::read(body) {
+        COMMAND_ID_OSD => match families::osd::read(body) {
             OsdRead::Got(c) => plain(dst, src, CommandPayload::Osd(c)),
             OsdRead::Refused(r) => crate::refused_with(r),
         },
-        0x08 => match families::vtx::read(body) {
+        COMMAND_ID_VTX => match families::vtx::read(body) {
             VtxRead::Got(c) => plain(dst, src, CommandPayload::Vtx(c)),
             VtxRead::Refused(r) => crate::refused_with(r),
         },
-        0x09 => match families::led::read(body) {
+        COMMAND_ID_LED => match families::led::read(body) {
             LedRead::Got(c) => plain(dst, src, CommandPayload::Led(c)),
             LedRead::Refused(r) => crate::refused_with(r),
         },
-        0x0A => match families::general::read(body) {
+        COMMAND_ID_GENERAL => match families::general::read(body) {
             GeneralRead::Got(c) => plain(dst, src, CommandPayload::General(c)),
             GeneralRead::Refused(r) => crate::refused_with(r),
         },
-        0x10 => match families::crossfire::read(body) {
+        COMMAND_ID_CROSSFIRE => match families::crossfire::read(body) {
             CrossfireRead::Got(c) => plain(dst, src, CommandPayload::Crossfire(c)),
             CrossfireRead::Refused(r) => crate::refused_with(r),
         },
-        0x20 => match families::flow_control::read(body) {
+        COMMAND_ID_FLOW_CONTROL => match families::flow_control::read(body) {
             FlowControlRead::Got(c) => plain(dst, src, CommandPayload::FlowControl(c)),
             FlowControlRead::Refused(r) => crate::refused_with(r),
         },
-        0x22 => read_screen(dst, src, body),
-        0xFF => read_ack(dst, src, body),
-        0x03 => crate::refused_with(Refusal::FamilyLeftBehind),
-        0x13 => crate::refused_with(Refusal::FamilyLeftBehind),
+        COMMAND_ID_SCREEN => read_screen(dst, src, body),
+        COMMAND_ID_ACK => read_ack(dst, src, body),
+        COMMAND_ID_BLUETOOTH => crate::refused_with(Refusal::FamilyLeftBehind),
+        COMMAND_ID_RC_OVER_WIFI => crate::refused_with(Refusal::FamilyLeftBehind),
         _ => crate::refused_with(Refusal::InvalidPayload),
     }
 }

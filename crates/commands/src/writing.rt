@@ -2,9 +2,8 @@
 ghost use mathlib.Core.Path.{_≡_};
 ghost use Prim.Native.Nat.{_+_, _≤_};
 ghost use lib.ListN.{length, take};
-ghost use Rattle.codec.specs.Told.{Writes};
 ghost use Rattle.commands.specs.Command.{madeNone, madeScreen, madeBeside};
-ghost use Rattle.commands.specs.Writing.{bodyOf, stopBody, opening, checked, roomOf};
+ghost use Rattle.commands.specs.Writing.{bodyOf, roomOf, WritesBody, WritesMade};
 ghost use Rattle.commands.specs.Closing.{closed};
 use crate::DirectCommands;
 use crate::MAX_PAYLOAD_SIZE;
@@ -39,14 +38,14 @@ pub(crate) fn is_made(payload: CommandPayload, bytes: &[u8], len: usize) -> bool
         CommandPayload::General(_) => stores_none(bytes, len),
         CommandPayload::Crossfire(_) => stores_none(bytes, len),
         CommandPayload::FlowControl(_) => stores_none(bytes, len),
-        CommandPayload::Screen(s) => screen_made(s, bytes, len),
+        CommandPayload::Screen(command) => screen_made(command, bytes, len),
         CommandPayload::Ack(_) => families::ack::made(bytes, len),
     }
 }
 
 // The body, with the first len of the bytes stored beside it.
 fn write_body(payload: CommandPayload, bytes: &[u8], len: usize, body: &mut [u8]) -> Written
-    ensures { λ r. ⌜ Writes (stopBody payload (take len (now (bytes .entry))) (length (now (body .entry)))) (bodyOf payload (take len (now (bytes .entry)))) r (now (body .entry)) (now (body .exit)) ⌝ }
+    ensures { λ r. ⌜ WritesBody payload (take len (now (bytes .entry))) r (now (body .entry)) (now (body .exit)) ⌝ }
 {
     match payload {
         CommandPayload::Fc(c) => families::fc::write_to(c, body),
@@ -94,7 +93,7 @@ pub(crate) fn write_made(
     buffer: &mut [u8],
 ) -> Written
     requires { ⌜ 4 ≤ length (now buffer) ⌝ }
-    ensures { λ r. ⌜ Writes (stopBody payload (take len (now (bytes .entry))) (roomOf (length (now (buffer .entry))))) (checked (opening dst src payload (take len (now (bytes .entry))))) r (now (buffer .entry)) (now (buffer .exit)) ⌝ }
+    ensures { λ r. ⌜ WritesMade dst src payload (take len (now (bytes .entry))) r (now (buffer .entry)) (now (buffer .exit)) ⌝ }
 {
     let end = room_of(buffer.len()) + 3;
     match write_body(payload, bytes, len, &mut buffer[3..end]) {
@@ -104,5 +103,23 @@ pub(crate) fn write_made(
             Written::Count(n + 4)
         }
         Written::Refused(r) => Written::Refused(r),
+    }
+}
+
+// How many bytes `write_body` writes, counted and not written.
+pub(crate) fn body_len(payload: CommandPayload, bytes: &[u8], len: usize) -> usize
+    ensures { λ r. ⌜ r ≡ length (bodyOf payload (take len (now (bytes .entry)))) ⌝ }
+    ensures { λ r. ⌜ r ≤ length (now (bytes .entry)) + 9 ⌝ }
+{
+    match payload {
+        CommandPayload::Fc(c) => families::fc::written_len(c),
+        CommandPayload::Osd(c) => families::osd::written_len(c),
+        CommandPayload::Vtx(c) => families::vtx::written_len(c),
+        CommandPayload::Led(c) => families::led::written_len(c),
+        CommandPayload::General(c) => families::general::written_len(c),
+        CommandPayload::Crossfire(c) => families::crossfire::written_len(c),
+        CommandPayload::FlowControl(c) => families::flow_control::written_len(c),
+        CommandPayload::Screen(c) => families::screen::written_len(c, bytes, len),
+        CommandPayload::Ack(c) => families::ack::written_len(c, bytes, len),
     }
 }

@@ -2,7 +2,6 @@ pub mod OneAnswer
 pub mod Handed
 pub mod Refusals
 pub mod OneAnswerMade
-pub mod WritesOut
 pub mod OneAnswerCommand
 pub mod OneAnswerEdits
 pub mod RuledOut

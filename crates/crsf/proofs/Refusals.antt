@@ -15,7 +15,7 @@ use Rattle.families.specs.declared.ack.CommandAck.{CommandAck}
 use Rattle.families.specs.declared.screen.ScreenPopup.{ScreenPopup}
 use Rattle.families.specs.declared.screen.ScreenPopupFields.{ScreenPopupFields}
 use Rattle.images.specs.Popup.{popupFrom}
-use Rattle.images.specs.Fields.{known, fieldsAt, fieldsFrom}
+use Rattle.images.specs.Fields.{knownAt, fieldsAt, fieldsFrom}
 use Rattle.images.specs.Record.{recordImage, recordAt, recordFrom}
 use Rattle.codec.proofs.Refused.{Some, some-got, some-refused, some-pick}
 
@@ -56,7 +56,7 @@ popup-some s = some-pick (eqb (length s) 56) _ _ (some-got (record { len = getD 
 pub fields-some : (s : List ℕ) → Some (fieldsFrom s)
 fields-some s =
     some-pick (eqb (length s) 268) _ _
-    (some-pick (known (getD s 105 0) (getD s 106 0) (getD s 215 0)) _ _ (some-got (fieldsAt s)) (some-refused 5 (omega arith)))
+    (some-pick (knownAt s) _ _ (some-got (fieldsAt s)) (some-refused 5 (omega arith)))
     (some-refused 5 (omega arith))
 
 pub record-some : (s : List ℕ) → Some (recordFrom s)

@@ -7,25 +7,18 @@ use mathlib.Core.List.{List, [], _∷_, _++_}
 use mathlib.Core.Path.{_≡_, refl, ap, sym, _∙_}
 use native.Mathlib.Omega.{arith}
 use lib.ListN.{length, replicate}
-use Rattle.codec.specs.Sheet.{Answer, refused, andThen}
+use Rattle.codec.specs.Sheet.{Answer, refused}
 use Rattle.codec.specs.Reading.{readItem}
 use Rattle.codec.specs.Writing.{leaves}
 use Rattle.codec.specs.Refusals.{numberIn}
-use Rattle.families.specs.Text.{newText}
-use Rattle.families.specs.Ack.{ackWith, newAck}
-use Rattle.families.specs.Fields.{construct, inspect}
-use Rattle.families.specs.declared.ack.CommandAck.{CommandAck}
+use Rattle.families.specs.Ack.{ackWith}
 use Rattle.commands.specs.Reading.{readCommand}
 use Rattle.commands.specs.declared.DirectCommands.{DirectCommands}
 use Rattle.commands.proofs.Known.{read-short}
 use Rattle.edits.specs.Edit.{Edit, edit, editCommand, bytesLeft, bytesAfter, numbersOf, editsIn}
-use Rattle.images.specs.Text.{imageOfText}
-use Rattle.images.specs.Ack.{imageOfAck}
-use Rattle.images.specs.Popup.{popupImage, popupFrom}
-use Rattle.images.specs.Fields.{fieldsImage, fieldsFrom}
-use Rattle.images.specs.Record.{recordImage, recordFrom}
-use Rattle.crsf.specs.Word.{handedOut, HandsOut}
-use Rattle.crsf.specs.Command.{WritesOut}
+use Rattle.images.specs.Record.{recordFrom}
+use Rattle.images.specs.Word.{WritesOut}
+use Rattle.crsf.specs.Handed.{ReadsOut, TextOut, AckOut, PopupOut, FieldsOut}
 use Rattle.crsf.specs.Edit.{EditsOut, ListsOut}
 
 -- a slice of n bytes
@@ -40,9 +33,6 @@ short-read : readCommand short ≡ refused 1 0
 short-read = read-short short (omega arith)
 
 -- ---- crsf_read (and must-fail/record_in_popup_room)
-abbrev ReadsOut : List ℕ → ℕ → List ℕ → List ℕ → Type 0
-ReadsOut p r s s' = HandsOut recordImage (handedOut 70 (length s) (readCommand p)) r s s'
-
 -- a refusal changes no byte: the blank record goes with it, but not its image
 pub read-refused : ReadsOut short 1 (room 70) (room 70)
 read-refused = rw short-read (refl, refl)
@@ -72,7 +62,8 @@ left-short (edit f n ∷ es) = ap (λ (a : Answer DirectCommands). bytesAfter (b
 numbers-short : (es : List Edit) → numbersOf short es ≡ replicate (length es) 1
 numbers-short [] = refl
 numbers-short (edit f n ∷ es) =
-    ap (λ (a : Answer DirectCommands). numberIn a ∷ numbersOf (bytesLeft short a) es) (short-edit f n) ∙ ap (λ (l : List ℕ). 1 ∷ l) (numbers-short es)
+    ap (λ (a : Answer DirectCommands). numberIn a ∷ numbersOf (bytesLeft short a) es) (short-edit f n)
+    ∙ ap (λ (l : List ℕ). 1 ∷ l) (numbers-short es)
 
 -- it goes on behind a refused edit; the answer byte behind the two keeps its own
 pub list-goes-on : ListsOut (replicate 16 0) 0 short short (room 3) (1 ∷ 1 ∷ 7 ∷ [])
@@ -81,9 +72,6 @@ list-goes-on =
     (refl, (sym (left-short es), ap (λ (l : List ℕ). leaves 0 l (room 3)) (sym (numbers-short es))))
 
 -- ---- crsf_text
-abbrev TextOut : List ℕ → ℕ → List ℕ → List ℕ → Type 0
-TextOut b r s s' = HandsOut imageOfText (handedOut 52 (length s) (newText b)) r s s'
-
 -- a text of 52 bytes
 pub text-52 : TextOut (replicate 52 0x41) 1 (room 52) (room 52)
 text-52 = (refl, refl)
@@ -93,9 +81,6 @@ pub text-room-first : TextOut (0 ∷ []) 3 (room 51) (room 51)
 text-room-first = (refl, refl)
 
 -- ---- crsf_ack
-abbrev AckOut : CommandAck → List ℕ → ℕ → List ℕ → List ℕ → Type 0
-AckOut a b r s s' = HandsOut imageOfAck (handedOut 56 (length s) (newAck a b)) r s s'
-
 -- an ACK with action 2
 pub ack-2 : AckOut (ackWith 1 1 2) [] 2 (room 56) (room 56)
 ack-2 = (refl, refl)
@@ -105,9 +90,6 @@ pub ack-room-first : AckOut (ackWith 1 1 2) [] 3 (room 55) (room 55)
 ack-room-first = (refl, refl)
 
 -- ---- crsf_popup
-abbrev PopupOut : List ℕ → ℕ → List ℕ → List ℕ → Type 0
-PopupOut f r s s' = HandsOut popupImage (handedOut 56 (length s) (andThen (fieldsFrom f) construct)) r s s'
-
 -- absent items are not looked at: nothing is present, and the label's length is 200
 pub popup-absent : PopupOut (replicate 107 0 ++ 200 ∷ replicate 160 0) 0 (room 57) (4 ∷ replicate 55 0 ++ 7 ∷ [])
 popup-absent = (refl, refl)
@@ -117,9 +99,6 @@ pub popup-no-image : PopupOut [] 5 (room 56) (room 56)
 popup-no-image = (refl, refl)
 
 -- ---- crsf_popup_fields
-abbrev FieldsOut : List ℕ → ℕ → List ℕ → List ℕ → Type 0
-FieldsOut q r s s' = HandsOut fieldsImage (handedOut 268 (length s) (andThen (popupFrom q) inspect)) r s s'
-
 -- the blank popup is not made: 5, and no blank fields
 pub fields-not-made : FieldsOut (replicate 56 0) 5 (room 268) (room 268)
 unfolding readItem

@@ -8,7 +8,7 @@ use Rattle.codec.specs.Writing.{leaves}
 use Rattle.codec.specs.Refusals.{numberIn}
 use Rattle.commands.specs.declared.DirectCommands.{DirectCommands}
 use Rattle.edits.specs.Edit.{editsIn, stopList, leftBy, numbersOf, bytesLeft}
-use Rattle.crsf.specs.Word.{word}
+use Rattle.images.specs.Word.{word}
 
 -- the number in its bits, no count, place 0; with each number "lent memory keeps its bytes"
 abbrev pub EditsOut : Answer DirectCommands → ℕ → List ℕ → List ℕ → Type 0

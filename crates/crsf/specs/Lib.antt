@@ -1,3 +1,2 @@
-pub mod Word
-pub mod Command
+pub mod Handed
 pub mod Edit

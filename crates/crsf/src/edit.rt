@@ -11,7 +11,8 @@ pub extern "C" fn crsf_edit(payload: &mut [u8], field: u32, number: u32) -> u32
 
 #[no_mangle]
 pub extern "C" fn crsf_edit_list(payload: &mut [u8], edits: &[u8], answers: &mut [u8]) -> u32
-    ensures { λ r. ⌜ ListsOut (now (edits .entry)) r (now (payload .entry)) (now (payload .exit)) (now (answers .entry)) (now (answers .exit)) ⌝ }
+    ensures { λ r. ⌜ ListsOut (now (edits .entry)) r (now (payload .entry)) (now (payload .exit))
+        (now (answers .entry)) (now (answers .exit)) ⌝ }
 {
     edits::edit_list(payload, edits, answers) as u32
 }

@@ -21,3 +21,7 @@ partText room s i k = parts room s i (suc k) .text
 -- all of a chunk was written: its parts up to the last come to the text of its lines, and its state is the chunk's
 abbrev pub Whole : ℕ → Listing → List ℕ → Progress → Type 0
 Whole room s i r = r .wrote ≡ true → (r .state ≡ stateIn (chunk s i)) × (textOfParts room s i (suc (r .last)) ≡ textOfChunk s i)
+
+-- the bytes of "crsf_list: ", in front of an argument
+abbrev pub beforeName : ℕ
+beforeName = 11

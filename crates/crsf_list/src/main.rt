@@ -6,7 +6,8 @@ ghost use Prim.Native.Nat.{_≤_};
 ghost use lib.ListN.{length};
 ghost use Rattle.listing.specs.Chunks.{After};
 ghost use Rattle.listing.specs.Parts.{textOfClosing};
-ghost use Rattle.crsf_list.specs.Handed.{Front, partText, Whole};
+ghost use Rattle.listing.specs.Text.{longestText};
+ghost use Rattle.crsf_list.specs.Handed.{Front, partText, Whole, beforeName};
 use codec::writer::Written;
 use libc::STDERR_FILENO;
 use libc::STDIN_FILENO;
@@ -17,6 +18,9 @@ use listing::Stop;
 
 // How long `crsf_list: ` is.
 const BEFORE_NAME: usize = 11;
+
+// With the longest path of Linux, 4096 bytes, behind it.
+const NAME_ROOM: usize = 4107;
 
 // What was listed of a chunk: the state behind it, the number of its last part, and whether all of it was written.
 struct Progress {
@@ -35,32 +39,32 @@ fn write_out(text: &[u8]) -> bool {
 }
 
 // Part `turn` of the chunk `input`.
-fn write_part(first: Listing, input: &[u8], turn: u64, text: &[u8], n: usize) -> bool
-    requires { ⌜ Front n (now text) (partText (length (now text)) first (now input) turn) ⌝ }
+fn write_part(first: Listing, input: &[u8], turn: u64, text: &[u8], len: usize) -> bool
+    requires { ⌜ Front len (now text) (partText (length (now text)) first (now input) turn) ⌝ }
 {
-    write_out(&text[..n])
+    write_out(&text[..len])
 }
 
 // The closing line.
-fn write_closing(state: Listing, text: &[u8], n: usize) -> bool
-    requires { ⌜ Front n (now text) (textOfClosing state) ⌝ }
+fn write_closing(state: Listing, text: &[u8], len: usize) -> bool
+    requires { ⌜ Front len (now text) (textOfClosing state) ⌝ }
 {
-    write_out(&text[..n])
+    write_out(&text[..len])
 }
 
 // All lines of a chunk, after so many chunks: nothing waits for the next one.
 fn list_chunk(chunks: u64, first: Listing, input: &[u8], text: &mut [u8]) -> Progress
-    requires { ⌜ (64 ≤ length (now text)) × After chunks first ⌝ }
+    requires { ⌜ (longestText ≤ length (now text)) × After chunks first ⌝ }
     ensures { λ r. ⌜ Whole (length (now (text .entry))) first (now (input .entry)) r ⌝ }
 {
-    let mut s = first;
+    let mut state = first;
     let mut at: usize = 0;
     let mut turn: u64 = 0;
     loop {
-        let part = s.fill(input, at, text);
+        let part = state.fill(input, at, text);
         let after = part.state;
         let stop = part.stop;
-        if !write_part(first, input, turn, text, part.n) {
+        if !write_part(first, input, turn, text, part.len) {
             return Progress {
                 state: after,
                 last: turn,
@@ -69,7 +73,7 @@ fn list_chunk(chunks: u64, first: Listing, input: &[u8], text: &mut [u8]) -> Pro
         }
         match stop {
             Stop::Full => {
-                s = after;
+                state = after;
                 at = part.at;
                 turn += 1;
             }
@@ -93,12 +97,12 @@ fn list_chunk(chunks: u64, first: Listing, input: &[u8], text: &mut [u8]) -> Pro
 
 // The text of the closing line, which has room. A state beyond its limits has none.
 fn put_closing(state: Listing, text: &mut [u8]) -> usize
-    requires { ⌜ 64 ≤ length (now text) ⌝ }
+    requires { ⌜ longestText ≤ length (now text) ⌝ }
     ensures { λ r. ⌜ Front r (now (text .exit)) (textOfClosing state) ⌝ }
 {
     match state.finish() {
         Listed::Line(line) => match listing::line::render(line, text) {
-            Written::Count(n) => n,
+            Written::Count(len) => len,
             Written::Refused(_) => 0,
         },
         Listed::Nothing => 0,
@@ -108,17 +112,17 @@ fn put_closing(state: Listing, text: &mut [u8]) -> usize
 
 // The input has ended, after so many chunks.
 fn close(chunks: u64, state: Listing, text: &mut [u8])
-    requires { ⌜ (64 ≤ length (now text)) × After chunks state ⌝ }
+    requires { ⌜ (longestText ≤ length (now text)) × After chunks state ⌝ }
 {
-    let n = put_closing(state, text);
-    write_closing(state, text, n);
+    let len = put_closing(state, text);
+    write_closing(state, text, len);
 }
 
 // A proved loop has to end, and nothing says that the input does: no input has as many chunks as this loop has turns.
 fn list_all(fd: i32, name: &[u8], input: &mut [u8], text: &mut [u8])
-    requires { ⌜ 64 ≤ length (now text) ⌝ }
+    requires { ⌜ longestText ≤ length (now text) ⌝ }
 {
-    let mut s = Listing::new();
+    let mut state = Listing::new();
     for chunks in 0..u64::MAX {
         let got = libc::read(fd, input);
         if got < 0 {
@@ -127,14 +131,14 @@ fn list_all(fd: i32, name: &[u8], input: &mut [u8], text: &mut [u8])
         }
         let count = io::count(got, input);
         if count == 0 {
-            close(chunks, s, text);
+            close(chunks, state, text);
             return;
         }
-        let p = list_chunk(chunks, s, &input[..count], text);
-        if !p.wrote {
+        let progress = list_chunk(chunks, state, &input[..count], text);
+        if !progress.wrote {
             return;
         }
-        s = p.state;
+        state = progress.state;
     }
 }
 
@@ -158,7 +162,7 @@ fn usage() {
 
 // `crsf_list: ` and the argument, as an error tells it: a file; `-`; or another word that begins so, an option, and none is known.
 fn list_named(name: &[u8])
-    requires { ⌜ 11 ≤ length (now name) ⌝ }
+    requires { ⌜ beforeName ≤ length (now name) ⌝ }
 {
     if name.len() > BEFORE_NAME && name[BEFORE_NAME] == b'-' {
         if name.len() == BEFORE_NAME + 1 {
@@ -177,15 +181,15 @@ fn list_named(name: &[u8])
 }
 
 fn list_argument(name: &mut [u8])
-    requires { ⌜ 11 ≤ length (now name) ⌝ }
+    requires { ⌜ beforeName ≤ length (now name) ⌝ }
 {
     codec::writer::put_bytes(name, 0, b"crsf_list: ");
-    let n = os::arg(1, &mut name[BEFORE_NAME..]);
+    let len = os::arg(1, &mut name[BEFORE_NAME..]);
     if os::errno() != 0 {
         os::fail(b"crsf_list: argument");
         return;
     }
-    let end = BEFORE_NAME + n;
+    let end = BEFORE_NAME + len;
     list_named(&name[..end]);
 }
 
@@ -199,6 +203,6 @@ fn main() {
         list_standard_input();
         return;
     }
-    let mut name = [0u8; 4107];
+    let mut name = [0u8; NAME_ROOM];
     list_argument(&mut name);
 }

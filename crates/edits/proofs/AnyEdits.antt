@@ -14,8 +14,8 @@ use lib.Dec.{leb, ltb, eqb}
 use borrow.Author.Tests.{leb-true, ltb-true, ltb-false, leb-false}
 use Rattle.codec.specs.Pick.{pick}
 use Rattle.codec.specs.Digits.{numberOf, bytesOf}
-use Rattle.codec.specs.Sheet.{Field, field, Item, packed, text, Answer, got, refused, andThen, widths}
-use Rattle.codec.specs.Edit.{placeOf, below, replaced, inField}
+use Rattle.codec.specs.Sheet.{Field, field, Item, packed, text, Answer, got, refused, andThen}
+use Rattle.codec.specs.Edit.{placeOf, replaced, inField}
 use Rattle.codec.specs.Refusals.{numberIn, valueIn}
 use Rattle.codec.proofs.Digits.{length-bytesOf}
 use Rattle.codec.proofs.Narrow.{sets-before, sets-behind}
@@ -30,15 +30,18 @@ use Rattle.edits.specs.Edit.{Edit, edit, fieldOf, fieldAt, spotOf, withF
 use Rattle.edits.specs.Demand.{withEdit, withEdits, named, judged, numbersFor, holdsBit, holdsIn, holdsItem, holdsSpot, OnlyThere, holdsAny, OnlyThose, Demanded}
 use Rattle.edits.specs.Table.{skipped, holding}
 use Rattle.edits.specs.Change.{held, patched, changed}
-use Rattle.edits.proofs.With.{field-there, spot-free, with-field}
-use Rattle.edits.proofs.Step.{fieldPlace, in-item, stepped}
+use Rattle.edits.proofs.Held.{first-not}
+use Rattle.edits.proofs.With.{FieldIn, field-there, spot-free, with-field}
+use Rattle.edits.proofs.Step.{lowBits, fieldPlace, fieldWidth, changedThere, in-item, stepped}
 use Rattle.edits.proofs.Applied.{edit-opened}
 
 -- ---- the bytes that hold a field are those that the code changes
-outside : (w low b q : ℕ) → low + b ≤ 8 * w → q < w → holdsBit w low b q ≡ false → (q < skipped w low b) ⊎ (skipped w low b + holding low b ≤ q)
+outside : (w low b q : ℕ) → low + b ≤ 8 * w → q < w → holdsBit w low b q ≡ false → (q < skipped w low b) ⊎
+    (skipped w low b + holding low b ≤ q)
 outside w low b q h l e = by (ltb low (8 * (w - q))) (ltb (8 * (w - (q + 1))) (low + b)) refl refl e
   where
-    by : (s t : Bool) → ltb low (8 * (w - q)) ≡ s → ltb (8 * (w - (q + 1))) (low + b) ≡ t → pick s t false ≡ false → (q < skipped w low b) ⊎ (skipped w low b + holding low b ≤ q)
+    by : (s t : Bool) → ltb low (8 * (w - q)) ≡ s → ltb (8 * (w - (q + 1))) (low + b) ≡ t → pick s t false ≡ false
+        → (q < skipped w low b) ⊎ (skipped w low b + holding low b ≤ q)
     by false t i j g = let k = ltb-false low (8 * (w - q)) i in inr (omega arith)
     by true false i j g = let k = ltb-false (8 * (w - (q + 1))) (low + b) j in inl (omega arith)
     by true true i j g = let z : _≡_ {A = ℕ} 0 1 = cc in absurd (omega arith)
@@ -56,19 +59,22 @@ window at w low b k lo hi h e = by (leb at k) (ltb k (at + w)) refl refl e
         let y = ltb-true k (at + w) j in
         inside (outside w low b (k - at) h (omega arith) g) x
       where
-        inside : (k - at < skipped w low b) ⊎ (skipped w low b + holding low b ≤ k - at) → at ≤ k → (k < at + skipped w low b) ⊎ (at + skipped w low b + holding low b ≤ k)
+        inside : (k - at < skipped w low b) ⊎ (skipped w low b + holding low b ≤ k - at) → at ≤ k
+            → (k < at + skipped w low b) ⊎ (at + skipped w low b + holding low b ≤ k)
         inside (inl l) x = inl (omega arith)
         inside (inr l) x = inr (omega arith)
 
 -- changing them changes no other byte but the last
-changed-there : (p : List ℕ) (at w u m n k : ℕ) → (k < at) ⊎ (at + w ≤ k) → (k ≡ length p - 1 → ⊥) → getD (changed p at w u m n) k 0 ≡ getD p k 0
+changed-there : (p : List ℕ) (at w u m n k : ℕ) → (k < at) ⊎ (at + w ≤ k) → (k ≡ length p - 1 → ⊥)
+    → getD (changed p at w u m n) k 0 ≡ getD p k 0
 changed-there p at w u m n k h l =
     let b = bytesOf w (replaced u m (numberOf (held p at w)) n) in
     getD-set-other (patched p at w u m n) (length p - 1) k _ 0 l ∙ by h
   where
     by : (k < at) ⊎ (at + w ≤ k) → getD (patched p at w u m n) k 0 ≡ getD p k 0
     by (inl a) = sets-before p (bytesOf w (replaced u m (numberOf (held p at w)) n)) at k a
-    by (inr a) = sets-behind p (bytesOf w (replaced u m (numberOf (held p at w)) n)) at k (rw (length-bytesOf w (replaced u m (numberOf (held p at w)) n)) a)
+    by (inr a) = sets-behind p (bytesOf w (replaced u m (numberOf (held p at w)) n)) at k
+        (rw (length-bytesOf w (replaced u m (numberOf (held p at w)) n)) a)
 
 changed-length : (p : List ℕ) (at w u m n : ℕ) → length (changed p at w u m n) ≡ length p
 changed-length p at w u m n = rw (length-set, length-sets)
@@ -110,37 +116,52 @@ field-seven (packed w fs) j k p e = by (ltb j (length fs)) e
 abbrev One : DirectCommands → ℕ → ℕ → Answer DirectCommands → Type 0
 One c f n a =
     (numberIn a ≡ judged (named c f) n)
-    × (OnlyThere c f (payloadOf c) (bytesLeft (payloadOf c) a) × ((bytesLeft (payloadOf c) a ≡ payloadOf (valueIn c a)) × Sound (valueIn c a)))
+    × (OnlyThere c f (payloadOf c)
+    (bytesLeft (payloadOf c) a) × ((bytesLeft (payloadOf c) a ≡ payloadOf (valueIn c a)) × Sound (valueIn c a)))
 
 module _ (c : DirectCommands) (f n : ℕ) (z : Sound c) where
   -- refused: no byte changes
   stays : (k l : ℕ) → k ≡ judged (named c f) n → One c f n (refused k l)
   stays k l e = (e, ((refl, λ x h g. refl), (refl, z)))
 
-  accepted : (i j : ℕ) (d : Field) → spotOf c f ≡ got (spot i j) → fieldAt c (spot i j) ≡ got d → inField d n ≡ true → One c f n (got (withField c (spot i j) n))
+  -- what is judged is the field where it stands
+  judged-at : (i j : ℕ) (a : Answer Field) → spotOf c f ≡ got (spot i j) → fieldAt c (spot i j) ≡ a → judged (named c f) n ≡ judged a n
+  judged-at i j a e g = ap (λ (x : Answer Spot). judged (andThen x (λ s. fieldAt c s)) n) e ∙ ap (λ (x : Answer Field). judged x n) g
+
+  accepted : (i j : ℕ) (d : Field) → spotOf c f ≡ got (spot i j) → fieldAt c (spot i j) ≡ got d → inField d n ≡ true
+      → One c f n (got (withField c (spot i j) n))
   accepted i j (field b lo hi) e g r =
       let there = field-there (itemsIn c) i j (field b lo hi) g in
-      let w = there .0 in
-      let fs = there .1 .0 in
-      let low = below (widths fs) j in
+      let place = fieldPlace z there in
+      let width = fieldWidth z there in
+      let unit = 2 ^ (lowBits z there % 8) in
       let p = payloadOf c in
       let c' = withField c (spot i j) n in
-      let place = fieldPlace c i j n w b lo hi fs z (there .1 .1 .0) (there .1 .1 .1 .1 .0) (there .1 .1 .1 .1 .1) in
       let v = with-field c i j n (field b lo hi) z (spot-free c f i j e) g r in
-      let s : payloadOf c' ≡ changed p place (holding low b) (2 ^ (low % 8)) (2 ^ b) n =
-      stepped c i j n w b lo hi fs z (there .1 .1 .0) (there .1 .1 .1 .1 .0) (there .1 .1 .1 .1 .1) r (spot-free c f i j e) g in
-      let m : 0 ≡ judged (named c f) n =
-      sym (ap (λ (a : Answer Spot). judged (andThen a (λ x. fieldAt c x)) n) e ∙ ap (λ (a : Answer Field). judged a n) g ∙ ap (λ (t : Bool). pick t 0 8) r) in
-      let long : length (payloadOf c') ≡ length p = ap length s ∙ changed-length p place (holding low b) (2 ^ (low % 8)) (2 ^ b) n in
-      (m, ((long, λ k h l. ap (λ (x : List ℕ). getD x k 0) s ∙ changed-there p place (holding low b) (2 ^ (low % 8)) (2 ^ b) n k (at-window k (there .1 .1 .0) (there .1 .1 .1 .1 .0) (there .1 .1 .1 .1 .1) h) l), (refl, v .1 .1 .1 .1)))
+      let s : payloadOf c' ≡ changedThere z there p n = stepped z there n r (spot-free c f i j e) g in
+      let m : 0 ≡ judged (named c f) n = sym (judged-at i j (got (field b lo hi)) e g ∙ ap (λ (t : Bool). pick t 0 8) r) in
+      let long : length (payloadOf c') ≡ length p = ap length s ∙ changed-length p place width unit (2 ^ b) n in (
+        m,
+        (
+          (
+            long,
+            λ k h l. ap (λ (x : List ℕ). getD x k 0) s ∙ changed-there p place width unit (2 ^ b) n k (at-window there k h) l,
+          ),
+          (refl, v .sound),
+        ),
+      )
     where
-      at-window : {w : ℕ} {fs : List Field} (k : ℕ) → getD (itemsIn c) i (text 0 0) ≡ packed w fs → j < length fs → getD fs j (field 0 0 0) ≡ field b lo hi → holdsSpot c (spotOf c f) k ≡ false
-          → (k < placeOf (itemsIn c) (valuesIn c) i + skipped w (below (widths fs) j) b) ⊎ (placeOf (itemsIn c) (valuesIn c) i + skipped w (below (widths fs) j) b + holding (below (widths fs) j) b ≤ k)
-      at-window {w} {fs} k a l d h =
+      at-window : (x : FieldIn (itemsIn c) i j (field b lo hi)) (k : ℕ) → holdsSpot c (spotOf c f) k ≡ false
+          → (k < fieldPlace z x) ⊎ (fieldPlace z x + fieldWidth z x ≤ k)
+      at-window x k h =
           let at = placeOf (itemsIn c) (valuesIn c) i in
-          let x : holdsIn at w (below (widths fs) j) (field b lo hi) k ≡ false =
-          sym (ap (λ (s : Answer Spot). holdsSpot c s k) e ∙ ap (λ (t : Item). holdsItem at t j k) a ∙ ap (λ (y : Field). holdsIn at w (below (widths fs) j) y k) d) ∙ h in
-          window at w (below (widths fs) j) b k lo hi (in-item c i j n w b lo hi fs z a l d) x
+          let low = lowBits z x in
+          let y : holdsIn at (x .wide) low (field b lo hi) k ≡ false =
+          sym (ap (λ (s : Answer Spot). holdsSpot c s k) e
+          ∙ ap (λ (t : Item). holdsItem at t j k) (x .holds)
+          ∙ ap (λ (d : Field). holdsIn at (x .wide) low d k) (x .this))
+          ∙ h in
+          window at (x .wide) low b k lo hi (in-item z x) y
 
   one : One c f n (editCommand (payloadOf c) f n)
   one = subst (One c f n) (sym (edit-opened (payloadOf c) c f n z refl)) (by-spot (spotOf c f) refl)
@@ -148,15 +169,19 @@ module _ (c : DirectCommands) (f n : ℕ) (z : Sound c) where
       by-field : (i j : ℕ) (a : Answer Field) → spotOf c f ≡ got (spot i j) → fieldAt c (spot i j) ≡ a
           → One c f n (andThen a (λ d. pick (inField d n) (got (withField c (spot i j) n)) (refused 8 0)))
       by-field i j (refused k l) e g =
-          stays k l (field-seven (getD (itemsIn c) i (text 0 0)) j k l g ∙ sym (ap (λ (a : Answer Spot). judged (andThen a (λ x. fieldAt c x)) n) e ∙ ap (λ (a : Answer Field). judged a n) g))
+          stays k l (field-seven (getD (itemsIn c) i (text 0 0)) j k l g ∙ sym (judged-at i j (refused k l) e g))
       by-field i j (got d) e g = by (inField d n) refl
         where
           by : (t : Bool) → inField d n ≡ t → One c f n (pick t (got (withField c (spot i j) n)) (refused 8 0))
           by true r = accepted i j d e g r
-          by false r = stays 8 0 (sym (ap (λ (a : Answer Spot). judged (andThen a (λ x. fieldAt c x)) n) e ∙ ap (λ (a : Answer Field). judged a n) g ∙ ap (λ (t : Bool). pick t 0 8) r))
+          by false r = stays 8 0 (sym (judged-at i j (got d) e g ∙ ap (λ (t : Bool). pick t 0 8) r))
 
-      by-spot : (a : Answer Spot) → spotOf c f ≡ a → One c f n (andThen a (λ x. andThen (fieldAt c x) (λ d. pick (inField d n) (got (withField c x n)) (refused 8 0))))
-      by-spot (refused k l) e = stays k l (spot-seven fields (familyId (c .payload)) (subOf (c .payload)) f k l e ∙ sym (ap (λ (a : Answer Spot). judged (andThen a (λ x. fieldAt c x)) n) e))
+      by-spot : (a : Answer Spot) → spotOf c f ≡ a
+          → One c f n (andThen a (λ x. andThen (fieldAt c x) (λ d. pick (inField d n) (got (withField c x n)) (refused 8 0))))
+      by-spot (refused k l) e =
+          stays k l
+          (spot-seven fields (familyId (c .payload)) (subOf (c .payload)) f k l e
+          ∙ sym (ap (λ (a : Answer Spot). judged (andThen a (λ x. fieldAt c x)) n) e))
       by-spot (got (spot i j)) e = by-field i j (fieldAt c (spot i j)) e refl
 
 -- ---- THE theorem
@@ -166,10 +191,24 @@ demanded c z (edit f n ∷ es) =
     let x = one c f n z in
     let e = edit-opened (payloadOf c) c f n z refl in
     let s : Sound (withEdit c f n) = subst (λ (a : Answer DirectCommands). Sound (valueIn c a)) e (x .1 .1 .1) in
-    let b : payloadOf (withEdit c f n) ≡ bytesLeft (payloadOf c) (editCommand (payloadOf c) f n) = sym (x .1 .1 .0 ∙ ap (λ (a : Answer DirectCommands). payloadOf (valueIn c a)) e) in
-    (sound-accepted c z 60 (z .short), (refl, (x .0, (x .1 .0, subst (λ (p : List ℕ). Demanded (withEdit c f n) p es) b (demanded (withEdit c f n) s es)))))
+    let b : payloadOf (withEdit c f n) ≡ bytesLeft (payloadOf c) (editCommand (payloadOf c) f n) =
+    sym (x .1 .1 .0 ∙ ap (λ (a : Answer DirectCommands). payloadOf (valueIn c a)) e) in (
+      sound-accepted c z 60 (z .short),
+      (
+        refl,
+        (
+          x .0,
+          (
+            x .1 .0,
+            subst (λ (p : List ℕ). Demanded (withEdit c f n) p es) b
+                (demanded (withEdit c f n) s es),
+          ),
+        ),
+      ),
+    )
 
-pub any-edits : (c : DirectCommands) (room : ℕ) → c .«dst_addr» < 256 → c .«src_addr» < 256 → Typed c → stopWriting c room ≡ 0 → (es : List Edit) → Demanded c (payloadOf c) es
+pub any-edits : (c : DirectCommands) (room : ℕ) → c .«dst_addr» < 256 → c .«src_addr» < 256 → Typed c
+    → stopWriting c room ≡ 0 → (es : List Edit) → Demanded c (payloadOf c) es
 any-edits c room d s t h es = demanded c (accepted-sound c room d s t h) es
 
 -- so at the end of the list: the bytes and the numbers that its contract speaks of
@@ -190,9 +229,6 @@ only-those c p (edit f n ∷ es) h =
     let r = only-those (withEdit c f n) q es (h .1 .1 .1 .1) in
     let l = o .0 in (
       r .0 ∙ l,
-      λ k a b. let s = neither (holdsSpot c (spotOf c f) k) (holdsAny (withEdit c f n) es k) a in r .1 k (s .1) (λ e. b (e ∙ ap (λ (x : ℕ). x - 1) l)) ∙ o .1 k (s .0) b,
+      λ k a b. let s = first-not (holdsSpot c (spotOf c f) k) (holdsAny (withEdit c f n) es k) a in r .1 k (s .1)
+          (λ e. b (e ∙ ap (λ (x : ℕ). x - 1) l)) ∙ o .1 k (s .0) b,
     )
-  where
-    neither : (t u : Bool) → pick t true u ≡ false → (t ≡ false) × (u ≡ false)
-    neither false u e = (refl, e)
-    neither true u e = let z : _≡_ {A = ℕ} 0 1 = cc in absurd (omega arith)

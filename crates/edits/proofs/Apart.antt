@@ -23,16 +23,13 @@ use Rattle.edits.specs.Fields.{Spot, spot, Standing, of, Listed, everywh
 use Rattle.edits.specs.Record.{subOf, itemsIn, valuesIn}
 use Rattle.edits.specs.Edit.{fieldOf, fieldAt, spotOf, withField, setField}
 use Rattle.edits.specs.Demand.{numberAt, readsBy, reads}
+use Rattle.edits.specs.Table.{numberListed}
 use Rattle.edits.proofs.With.{Changed, items-ok, field-there, spot-free, with-field}
 
 -- ---- where a row of 01's list has its field, in the command of a family and sub-command
 abbrev gives : Listed → ℕ → ℕ → Answer Spot
 gives (everywhere k i) id sub = got (spot i 0)
 gives (listed k family at j) id sub = pick (eqb id family) (andThen (itemIn at sub) (λ i. got (spot i j))) (refused 7 0)
-
-abbrev number : Listed → ℕ
-number (everywhere k i) = k
-number (listed k family at j) = k
 
 -- ---- the test: no two rows have their field at the same place of a command
 abbrev isItem : Answer ℕ → ℕ → Bool
@@ -72,7 +69,8 @@ item-any : (l : List Standing) (sub i : ℕ) → itemIn l sub ≡ got i → anyI
 item-any [] sub i e = let z : _≡_ {A = ℕ} 0 1 = cc in absurd (omega arith)
 item-any (of k x ∷ l) sub i e = by (eqb sub k) (eqb x i) refl (item-any l sub i) e
   where
-    by : (t u : Bool) → eqb x i ≡ u → (itemIn l sub ≡ got i → anyItem l i ≡ true) → pick t (got x) (itemIn l sub) ≡ got i → pick u true (anyItem l i) ≡ true
+    by : (t u : Bool) → eqb x i ≡ u → (itemIn l sub ≡ got i → anyItem l i ≡ true) → pick t (got x) (itemIn l sub) ≡ got i
+        → pick u true (anyItem l i) ≡ true
     by t true p go g = refl
     by false false p go g = go g
     by true false p go g = let d : x ≡ i = cc in absurd (eqb-false x i p d)
@@ -88,7 +86,8 @@ items-meet (of k x ∷ a) l sub i e h = by (eqb sub k) refl (λ g. items-meet a 
     on true p = refl
     on false p = p
 
-    by : (t : Bool) → eqb sub k ≡ t → (itemIn a sub ≡ got i → meet a l ≡ true) → pick t (got x) (itemIn a sub) ≡ got i → pick (isItem (itemIn l k) x) true (meet a l) ≡ true
+    by : (t : Bool) → eqb sub k ≡ t → (itemIn a sub ≡ got i → meet a l ≡ true) → pick t (got x) (itemIn a sub) ≡ got i
+        → pick (isItem (itemIn l k) x) true (meet a l) ≡ true
     by true p go g =
         let d : x ≡ i = cc in
         let q : sub ≡ k = eqb-true sub k p in
@@ -96,10 +95,12 @@ items-meet (of k x ∷ a) l sub i e h = by (eqb sub k) refl (λ g. items-meet a 
     by false p go g = on (isItem (itemIn l k) x) (go g)
 
 -- what a row of a family gives
-given : (family : ℕ) (at : List Standing) (y id sub i j : ℕ) → gives (listed 0 family at y) id sub ≡ got (spot i j) → (id ≡ family) × ((itemIn at sub ≡ got i) × (y ≡ j))
+given : (family : ℕ) (at : List Standing) (y id sub i j : ℕ) → gives (listed 0 family at y) id sub ≡ got (spot i j)
+    → (id ≡ family) × ((itemIn at sub ≡ got i) × (y ≡ j))
 given family at y id sub i j e = by (eqb id family) (itemIn at sub) refl refl e
   where
-    by : (t : Bool) (a : Answer ℕ) → eqb id family ≡ t → itemIn at sub ≡ a → pick t (andThen a (λ x. got (spot x y))) (refused 7 0) ≡ got (spot i j)
+    by : (t : Bool) (a : Answer ℕ) → eqb id family ≡ t → itemIn at sub ≡ a → pick t (andThen a (λ x. got (spot x y)))
+        (refused 7 0) ≡ got (spot i j)
         → (id ≡ family) × ((itemIn at sub ≡ got i) × (y ≡ j))
     by true (got x) p q g = let d : x ≡ i = cc in let u : y ≡ j = cc in (eqb-true id family p, (q ∙ ap (λ (z : ℕ). got z) d, u))
     by true (refused n m) p q g = let z : _≡_ {A = ℕ} 0 1 = cc in absurd (omega arith)
@@ -123,13 +124,16 @@ clashes (listed k family at y) (listed l other at' y') id sub i j e h =
     rw (eq-eqb family other (sym (g .0) ∙ g' .0), eq-eqb y y' (g .1 .1 ∙ sym (g' .1 .1))) (items-meet at at' sub i (g .1 .0) (g' .1 .0))
 
 -- ---- 01's list, one row after the other
-found : (a : Listed) (l : List Listed) (id sub f : ℕ) → spotIn (a ∷ l) id sub f ≡ pick (eqb f (number a)) (gives a id sub) (spotIn l id sub f)
+found : (a : Listed) (l : List Listed) (id sub f : ℕ) → spotIn (a ∷ l) id sub f ≡ pick (eqb f (numberListed a))
+    (gives a id sub) (spotIn l id sub f)
 found (everywhere k i) l id sub f = refl
 found (listed k family at j) l id sub f = refl
 
-some-clash : (a : Listed) (l : List Listed) (id sub g i j : ℕ) → gives a id sub ≡ got (spot i j) → spotIn l id sub g ≡ got (spot i j) → clashAny a l ≡ true
+some-clash : (a : Listed) (l : List Listed) (id sub g i j : ℕ) → gives a id sub ≡ got (spot i j)
+    → spotIn l id sub g ≡ got (spot i j) → clashAny a l ≡ true
 some-clash a [] id sub g i j e h = let z : _≡_ {A = ℕ} 0 1 = cc in absurd (omega arith)
-some-clash a (b ∷ l) id sub g i j e h = by (eqb g (number b)) (clash a b) refl (some-clash a l id sub g i j e) (sym (found b l id sub g) ∙ h)
+some-clash a (b ∷ l) id sub g i j e h = by (eqb g (numberListed b)) (clash a b) refl (some-clash a l id sub g i j e)
+    (sym (found b l id sub g) ∙ h)
   where
     by : (t u : Bool) → clash a b ≡ u → (spotIn l id sub g ≡ got (spot i j) → clashAny a l ≡ true)
         → pick t (gives b id sub) (spotIn l id sub g) ≡ got (spot i j) → pick u true (clashAny a l) ≡ true
@@ -137,28 +141,33 @@ some-clash a (b ∷ l) id sub g i j e h = by (eqb g (number b)) (clash a b) refl
     by true false p go x = absurd (false-true (sym p ∙ clashes a b id sub i j e x))
     by false false p go x = go x
 
-one-place : (l : List Listed) (id sub f g i j : ℕ) → apart l ≡ true → spotIn l id sub f ≡ got (spot i j) → spotIn l id sub g ≡ got (spot i j) → f ≡ g
+one-place : (l : List Listed) (id sub f g i j : ℕ) → apart l ≡ true → spotIn l id sub f ≡ got (spot i j)
+    → spotIn l id sub g ≡ got (spot i j) → f ≡ g
 one-place [] id sub f g i j t e h = let z : _≡_ {A = ℕ} 0 1 = cc in absurd (omega arith)
 one-place (a ∷ l) id sub f g i j t e h =
-    by (eqb f (number a)) (eqb g (number a)) (clashAny a l) refl refl refl (one-place l id sub f g i j) t (sym (found a l id sub f) ∙ e) (sym (found a l id sub g) ∙ h)
+    by (eqb f (numberListed a)) (eqb g (numberListed a)) (clashAny a l) refl refl refl (one-place l id sub f g i j) t
+    (sym (found a l id sub f) ∙ e) (sym (found a l id sub g) ∙ h)
   where
     never : clashAny a l ≡ false → clashAny a l ≡ true → f ≡ g
     never p q = absurd (false-true (sym p ∙ q))
 
-    by : (u v c : Bool) → eqb f (number a) ≡ u → eqb g (number a) ≡ v → clashAny a l ≡ c
+    by : (u v c : Bool) → eqb f (numberListed a) ≡ u → eqb g (numberListed a) ≡ v → clashAny a l ≡ c
         → (apart l ≡ true → spotIn l id sub f ≡ got (spot i j) → spotIn l id sub g ≡ got (spot i j) → f ≡ g) → pick c false (apart l) ≡ true
-        → pick u (gives a id sub) (spotIn l id sub f) ≡ got (spot i j) → pick v (gives a id sub) (spotIn l id sub g) ≡ got (spot i j) → f ≡ g
+        → pick u (gives a id sub) (spotIn l id sub f) ≡ got (spot i j) → pick v (gives a id sub)
+        (spotIn l id sub g) ≡ got (spot i j) → f ≡ g
     by u v true p q r go s x y = let z : _≡_ {A = ℕ} 0 1 = cc in absurd (omega arith)
-    by true true false p q r go s x y = eqb-true f (number a) p ∙ sym (eqb-true g (number a) q)
+    by true true false p q r go s x y = eqb-true f (numberListed a) p ∙ sym (eqb-true g (numberListed a) q)
     by true false false p q r go s x y = never r (some-clash a l id sub g i j x y)
     by false true false p q r go s x y = never r (some-clash a l id sub f i j y x)
     by false false false p q r go s x y = go s x y
 
 -- ---- a value set, and read
 set-here : (vs : List (List ℕ)) (i j n : ℕ) → i < length vs → j < length (getD vs i []) → getD (getD (setValue vs i j n) i []) j 0 ≡ n
-set-here vs i j n a b = ap (λ (v : List ℕ). getD v j 0) (getD-set-same vs i (set (getD vs i []) j n) [] a) ∙ getD-set-same (getD vs i []) j n 0 b
+set-here vs i j n a b = ap (λ (v : List ℕ). getD v j 0) (getD-set-same vs i (set (getD vs i []) j n) [] a)
+    ∙ getD-set-same (getD vs i []) j n 0 b
 
-set-there : (vs : List (List ℕ)) (i j n x y : ℕ) → i < length vs → (i ≡ x → j ≡ y → ⊥) → getD (getD (setValue vs i j n) x []) y 0 ≡ getD (getD vs x []) y 0
+set-there : (vs : List (List ℕ)) (i j n x y : ℕ) → i < length vs → (i ≡ x → j ≡ y → ⊥)
+    → getD (getD (setValue vs i j n) x []) y 0 ≡ getD (getD vs x []) y 0
 set-there vs i j n x y a d = by (eqb x i) (eqb y j) refl refl
   where
     by : (t u : Bool) → eqb x i ≡ t → eqb y j ≡ u → getD (getD (setValue vs i j n) x []) y 0 ≡ getD (getD vs x []) y 0
@@ -166,7 +175,8 @@ set-there vs i j n x y a d = by (eqb x i) (eqb y j) refl refl
     by true true p q = absurd (d (sym (eqb-true x i p)) (sym (eqb-true y j q)))
     by true false p q =
         let e : x ≡ i = eqb-true x i p in
-        ap (λ (k : ℕ). getD (getD (setValue vs i j n) k []) y 0) e ∙ ap (λ (v : List ℕ). getD v y 0) (getD-set-same vs i (set (getD vs i []) j n) [] a)
+        ap (λ (k : ℕ). getD (getD (setValue vs i j n) k []) y 0) e ∙ ap (λ (v : List ℕ). getD v y 0)
+        (getD-set-same vs i (set (getD vs i []) j n) [] a)
         ∙ getD-set-other (getD vs i []) j y n 0 (eqb-false y j q) ∙ ap (λ (k : ℕ). getD (getD vs k []) y 0) (sym e)
 
 -- a value in range has a number for each field of its item
@@ -178,18 +188,21 @@ within-long (field b lo hi ∷ fs) (x ∷ v) h =
     let p = passed (ltb x lo) (pick (ltb hi x) false (within fs v)) h in
     ap suc (within-long fs v (passed (ltb hi x) (within fs v) (p .1) .1))
 
-value-long : (is : List Item) (vs : List (List ℕ)) (i w : ℕ) (fs : List Field) → okItems is vs ≡ true → getD is i (text 0 0) ≡ packed w fs → i < length is
+value-long : (is : List Item) (vs : List (List ℕ)) (i w : ℕ) (fs : List Field) → okItems is vs ≡ true
+    → getD is i (text 0 0) ≡ packed w fs → i < length is
     → length (getD vs i []) ≡ length fs
 value-long [] vs i w fs o e l = absurd (omega arith)
 value-long (t ∷ is) [] i w fs o e l = let z : _≡_ {A = ℕ} 0 1 = cc in absurd (omega arith)
-value-long (t ∷ is) (v ∷ vs) zero w fs o e l = within-long fs v (subst (λ (x : Item). okItem x v ≡ true) e (both (okItem t v) (okItems is vs) o .0))
+value-long (t ∷ is) (v ∷ vs) zero w fs o e l = within-long fs v
+    (subst (λ (x : Item). okItem x v ≡ true) e (both (okItem t v) (okItems is vs) o .0))
 value-long (t ∷ is) (v ∷ vs) (suc i) w fs o e l = value-long is vs i w fs (both (okItem t v) (okItems is vs) o .1) e (omega arith)
 
 -- ---- THE law: the field that is set reads the new number, every other what it read
 abbrev pub ReadsAfter : DirectCommands → ℕ → ℕ → DirectCommands → Type 0
 ReadsAfter c f n c' = (reads c' f ≡ got n) × ((g : ℕ) → (g ≡ f → ⊥) → reads c' g ≡ reads c g)
 
-module _ (c : DirectCommands) (f n i j : ℕ) (d : Field) (z : Sound c) (e : spotOf c f ≡ got (spot i j)) (g : fieldAt c (spot i j) ≡ got d) (r : inField d n ≡ true) where
+module _ (c : DirectCommands) (f n i j : ℕ) (d : Field) (z : Sound c) (e : spotOf c f ≡ got (spot i j))
+    (g : fieldAt c (spot i j) ≡ got d) (r : inField d n ≡ true) where
   abbrev c' : DirectCommands
   c' = withField c (spot i j) n
 
@@ -198,23 +211,24 @@ module _ (c : DirectCommands) (f n i j : ℕ) (d : Field) (z : Sound c) (e : spo
 
   -- a field stands where it stood, in the same item
   stands : (h : ℕ) → spotOf c' h ≡ spotOf c h
-  stands h = ap₂ (λ (id sub : ℕ). spotIn fields id sub h) (changes .1 .1 .0) (changes .1 .1 .1 .0)
+  stands h = ap₂ (λ (id sub : ℕ). spotIn fields id sub h) (changes .family) (changes .sub)
 
   same-field : (x y : ℕ) → fieldAt c' (spot x y) ≡ fieldAt c (spot x y)
-  same-field x y = ap (λ (is : List Item). fieldOf (getD is x (text 0 0)) y) (changes .0)
+  same-field x y = ap (λ (is : List Item). fieldOf (getD is x (text 0 0)) y) (changes .items)
 
   there : (i < length (valuesIn c)) × (j < length (getD (valuesIn c) i []))
   there =
       let t = field-there (itemsIn c) i j d g in
       let o = items-ok c z in
-      let l = t .1 .1 .1 .0 in
-      let k = value-long (itemsIn c) (valuesIn c) i (t .0) (t .1 .0) o (t .1 .1 .0) l in
-      (omega (arith, l, ok-length (itemsIn c) (valuesIn c) o), omega (arith, k, t .1 .1 .1 .1 .0))
+      let k = value-long (itemsIn c) (valuesIn c) i (t .wide) (t .all) o (t .holds) (t .inside) in
+      (omega (arith, t .inside, ok-length (itemsIn c) (valuesIn c) o), omega (arith, k, t .within))
 
   new : reads c' f ≡ got n
   new =
-      ap (λ (a : Answer Spot). readsBy c' a) (stands f ∙ e) ∙ ap (λ (a : Answer Field). andThen a (λ x. got (numberAt c' (spot i j)))) (same-field i j ∙ g)
-      ∙ ap (λ (vs : List (List ℕ)). got (getD (getD vs i []) j 0)) (changes .1 .0) ∙ ap (λ (x : ℕ). got x) (set-here (valuesIn c) i j n (there .0) (there .1))
+      ap (λ (a : Answer Spot). readsBy c' a) (stands f ∙ e)
+      ∙ ap (λ (a : Answer Field). andThen a (λ x. got (numberAt c' (spot i j)))) (same-field i j ∙ g)
+      ∙ ap (λ (vs : List (List ℕ)). got (getD (getD vs i []) j 0)) (changes .values) ∙ ap (λ (x : ℕ). got x)
+      (set-here (valuesIn c) i j n (there .0) (there .1))
 
   other : (h : ℕ) → (h ≡ f → ⊥) → reads c' h ≡ reads c h
   other h ne = ap (λ (a : Answer Spot). readsBy c' a) (stands h) ∙ by (spotOf c h) refl
@@ -223,8 +237,10 @@ module _ (c : DirectCommands) (f n i j : ℕ) (d : Field) (z : Sound c) (e : spo
       by (refused k l) p = refl
       by (got (spot x y)) p =
           ap₂ (λ (a : Answer Field) (m : ℕ). andThen a (λ q. got m)) (same-field x y)
-          (ap (λ (vs : List (List ℕ)). getD (getD vs x []) y 0) (changes .1 .0)
-          ∙ set-there (valuesIn c) i j n x y (there .0) (λ q s. ne (one-place fields (familyId (c .payload)) (subOf (c .payload)) h f i j fields-apart (p ∙ ap₂ (λ (u v : ℕ). got (spot u v)) (sym q) (sym s)) e)))
+          (ap (λ (vs : List (List ℕ)). getD (getD vs x []) y 0) (changes .values)
+          ∙ set-there (valuesIn c) i j n x y (there .0)
+          (λ q s. ne (one-place fields (familyId (c .payload)) (subOf (c .payload)) h f i j fields-apart
+          (p ∙ ap₂ (λ (u v : ℕ). got (spot u v)) (sym q) (sym s)) e)))
 
 pub set-reads : (c : DirectCommands) → Sound c → (f n : ℕ) (c' : DirectCommands) → setField c f n ≡ got c' → ReadsAfter c f n c'
 set-reads c z f n c' h = by-spot (spotOf c f) refl h
@@ -242,6 +258,7 @@ set-reads c z f n c' h = by-spot (spotOf c f) refl h
     by-field i j (refused k l) e g q = let x : _≡_ {A = ℕ} 0 1 = cc in absurd (omega arith)
 
     by-spot : (a : Answer Spot) → spotOf c f ≡ a
-        → andThen a (λ s. andThen (fieldAt c s) (λ d. pick (inField d n) (got (withField c s n)) (refused 8 0))) ≡ got c' → ReadsAfter c f n c'
+        → andThen a (λ s. andThen (fieldAt c s) (λ d. pick (inField d n) (got (withField c s n)) (refused 8 0))) ≡ got c'
+        → ReadsAfter c f n c'
     by-spot (got (spot i j)) e q = by-field i j (fieldAt c (spot i j)) e refl q
     by-spot (refused k l) e q = let x : _≡_ {A = ℕ} 0 1 = cc in absurd (omega arith)

@@ -12,7 +12,7 @@ use borrow.Author.Tests.{ltb-true, ltb-false, leb-true, eqb-true, eqb-false, lt-
 use Rattle.crc.specs.Check.{commandPolynomial, checkOf, Bytes}
 use Rattle.codec.specs.Pick.{pick}
 use Rattle.codec.specs.Same.{same}
-use Rattle.codec.specs.Sheet.{text, Answer, got, refused, andThen, byte}
+use Rattle.codec.specs.Sheet.{Item, text, Answer, got, refused, andThen, byte}
 use Rattle.codec.specs.Reading.{readItem}
 use Rattle.codec.specs.Writing.{nonzero, okItem, okItems, writeItems}
 use Rattle.codec.specs.Edit.{placeOf}
@@ -52,7 +52,7 @@ use Rattle.edits.specs.Record.{subOf, storedWith, popupWith}
 use Rattle.edits.specs.Edit.{openCommand}
 use Rattle.edits.specs.Table.{nearItem, farItem}
 use Rattle.edits.specs.Layout.{vtxLayout, placeAfter, afterText, shown, selection, popupFrom, popupLayout, layoutFor}
-use Rattle.edits.specs.Opened.{ServesAs, Serves, vtxPit, hasPit, fitting, unset, Opens, OpensRead}
+use Rattle.edits.specs.Opened.{ServesAs, Serves, vtxPit, hasPit, fitting, unset, vtxOpening, Opens, OpensRead}
 use Rattle.edits.specs.declared.layout.Layout.{Layout}
 use Rattle.edits.specs.declared.opening.Opening.{Opening}
 use Rattle.edits.specs.declared.opening.Opening.the-variants.{Got, Refused}
@@ -115,7 +115,8 @@ size-is c z p =
     size-by (c .payload) (c .len) (storedIn c) p (s .0) (s .1 .1 .0) ∙ sym (length-is c (z .inRange) (z .isMade) (z .stored) (z .size))
 
 -- the stored bytes have room
-room-by : (q : CommandPayload) (t : List ℕ) → storedWith q t (bodyValues q t) ≡ t → length t ≤ length (writeItems (bodyItems q t) (bodyValues q t))
+room-by : (q : CommandPayload) (t : List ℕ) → storedWith q t (bodyValues q t) ≡ t
+    → length t ≤ length (writeItems (bodyItems q t) (bodyValues q t))
 room-by (Fc c) t e = rw (← e) (omega arith)
 room-by (Osd c) t e = rw (← e) (omega arith)
 room-by (Vtx c) t e = rw (← e) (omega arith)
@@ -134,9 +135,11 @@ stored-room c z =
     omega (arith, r, s .1 .1 .0, length-is c (z .inRange) (z .isMade) (z .stored) (z .size))
 
 -- ---- a popup's places, found by reading
-after-label : (pre v post : List ℕ) (n : ℕ) → length pre ≡ n → okItem textItem v ≡ true → n + (length v + 1) ≡ afterText (pre ++ ((v ++ 0 ∷ []) ++ post)) n
+after-label : (pre v post : List ℕ) (n : ℕ) → length pre ≡ n → okItem textItem v ≡ true
+    → n + (length v + 1) ≡ afterText (pre ++ ((v ++ 0 ∷ []) ++ post)) n
 after-label pre v post n l o =
-    sym (ap (λ (a : Answer (List ℕ)). placeAfter n a) (ap (λ (s : List ℕ). readItem textItem s) (drop-at pre ((v ++ 0 ∷ []) ++ post) n l) ∙ item-back textItem v post refl o))
+    let read = ap (λ (s : List ℕ). readItem textItem s) (drop-at pre ((v ++ 0 ∷ []) ++ post) n l) in
+    sym (ap (λ (a : Answer (List ℕ)). placeAfter n a) (read ∙ item-back textItem v post refl o))
 
 -- header h, info i, timeout x, close flag y, then m, and the check
 module _ (dst src x y k : ℕ) (h i m : List ℕ) (a : okItem textItem h ≡ true) (b : okItem textItem i ≡ true) where
@@ -160,7 +163,8 @@ module _ (dst src x y k : ℕ) (h i m : List ℕ) (a : okItem textItem h ≡ tru
   at-info : 4 + (length h + 1) ≡ afterText whole 4
   at-info =
       let w = (i ++ 0 ∷ []) ++ x ∷ y ∷ m in
-      let e : whole ≡ (dst ∷ src ∷ 0x22 ∷ 0x01 ∷ []) ++ ((h ++ 0 ∷ []) ++ (w ++ k ∷ [])) = ap (λ (l : List ℕ). dst ∷ src ∷ 0x22 ∷ 0x01 ∷ l) (append-assoc (h ++ 0 ∷ []) w (k ∷ [])) in
+      let e : whole ≡ (dst ∷ src ∷ 0x22 ∷ 0x01 ∷ []) ++ ((h ++ 0 ∷ []) ++ (w ++ k ∷ [])) =
+      ap (λ (l : List ℕ). dst ∷ src ∷ 0x22 ∷ 0x01 ∷ l) (append-assoc (h ++ 0 ∷ []) w (k ∷ [])) in
       after-label (dst ∷ src ∷ 0x22 ∷ 0x01 ∷ []) h (w ++ k ∷ []) 4 refl a ∙ ap (λ (s : List ℕ). afterText s 4) (sym e)
 
   at-timeout : timeout ≡ afterText whole (4 + (length h + 1))
@@ -187,7 +191,8 @@ module _ (dst src x y k : ℕ) (h i m : List ℕ) (a : okItem textItem h ≡ tru
   empty-layout r e =
       let l : length m ≡ length (0 ∷ r) = ap length e in
       let t : whole ≡ head ++ 0 ∷ (r ++ k ∷ []) = head-then ∙ ap (λ (s : List ℕ). head ++ (s ++ k ∷ [])) e in
-      let z : getD whole (timeout + 2) 0 ≡ 0 = ap (λ (s : List ℕ). getD s (timeout + 2) 0) t ∙ getD-at head 0 (r ++ k ∷ []) 0 (timeout + 2) head-length in
+      let z : getD whole (timeout + 2) 0 ≡ 0 = ap (λ (s : List ℕ). getD s (timeout + 2) 0) t
+      ∙ getD-at head 0 (r ++ k ∷ []) 0 (timeout + 2) head-length in
       popup-shown (length written) whole (4 + (length h + 1)) timeout at-info at-timeout (inl (omega (arith, l, written-length), z))
 
   selection-layout : (f : ℕ) (v r : List ℕ) → m ≡ ((f ∷ v) ++ 0 ∷ []) ++ r → okItem textItem (f ∷ v) ≡ true → (f ≡ 0 → ⊥)
@@ -195,11 +200,16 @@ module _ (dst src x y k : ℕ) (h i m : List ℕ) (a : okItem textItem h ≡ tru
   selection-layout f v r e o g =
       let l : length m ≡ length (((f ∷ v) ++ 0 ∷ []) ++ r) = ap length e in
       let u : 0 < length (((f ∷ v) ++ 0 ∷ []) ++ r) = omega arith in
-      let t : whole ≡ head ++ (((f ∷ v) ++ 0 ∷ []) ++ (r ++ k ∷ [])) = head-then ∙ (ap (λ (s : List ℕ). head ++ (s ++ k ∷ [])) e ∙ ap (λ (s : List ℕ). head ++ s) (append-assoc ((f ∷ v) ++ 0 ∷ []) r (k ∷ []))) in
-      let z : getD whole (timeout + 2) 0 ≡ f = ap (λ (s : List ℕ). getD s (timeout + 2) 0) t ∙ getD-at head f ((v ++ 0 ∷ []) ++ (r ++ k ∷ [])) 0 (timeout + 2) head-length in
+      let t : whole ≡ head ++ (((f ∷ v) ++ 0 ∷ []) ++ (r ++ k ∷ [])) =
+      head-then
+      ∙ ap (λ (s : List ℕ). head ++ (s ++ k ∷ [])) e
+      ∙ ap (λ (s : List ℕ). head ++ s) (append-assoc ((f ∷ v) ++ 0 ∷ []) r (k ∷ [])) in
+      let z : getD whole (timeout + 2) 0 ≡ f = ap (λ (s : List ℕ). getD s (timeout + 2) 0) t
+      ∙ getD-at head f ((v ++ 0 ∷ []) ++ (r ++ k ∷ [])) 0 (timeout + 2) head-length in
       let d : timeout + 2 + (length (f ∷ v) + 1) ≡ afterText whole (timeout + 2) =
       after-label head (f ∷ v) (r ++ k ∷ []) (timeout + 2) head-length o ∙ ap (λ (s : List ℕ). afterText s (timeout + 2)) (sym t) in
-      popup-selection (length written) whole (4 + (length h + 1)) timeout (timeout + 2 + (length (f ∷ v) + 1)) at-info at-timeout (omega (arith, l, u, written-length)) (λ q. g (sym z ∙ q)) d
+      popup-selection (length written) whole (4 + (length h + 1)) timeout (timeout + 2 + (length (f ∷ v) + 1)) at-info
+      at-timeout (omega (arith, l, u, written-length)) (λ q. g (sym z ∙ q)) d
 
 -- ---- a popup of each kind
 abbrev PopupBy : Popup → ℕ → ℕ → Layout → Type 0
@@ -213,12 +223,16 @@ module _ (dst src k : ℕ) (v1 v2 v3 v4 : List ℕ) (p1 : okItem textItem v1 ≡
   absent-serves =
       let q = popup Absent false (v1 ∷ v2 ∷ v3 ∷ v4 ∷ []) in
       let g = popup-held Absent false (v1 ∷ v2 ∷ v3 ∷ v4 ∷ []) in
-      subst (λ (s : Layout). PopupBy q dst src s) (none-layout dst src _ _ k v1 v2 [] p1 p2 refl) (g .0, (g .1, (omega arith, (omega arith, refl))))
+      subst (λ (s : Layout). PopupBy q dst src s) (none-layout dst src _ _ k v1 v2 [] p1 p2 refl)
+      (record { rows = g .0; direct = g .1; within = omega arith; near = omega arith; far = refl })
 
-  empty-serves : (p : Bool) (v5 : List ℕ) (vs : List (List ℕ)) → v5 ≡ [] → PopupServed (popup Empty p (v1 ∷ v2 ∷ v3 ∷ v4 ∷ v5 ∷ vs)) dst src k
+  empty-serves : (p : Bool) (v5 : List ℕ) (vs : List (List ℕ)) → v5 ≡ []
+      → PopupServed (popup Empty p (v1 ∷ v2 ∷ v3 ∷ v4 ∷ v5 ∷ vs)) dst src k
   empty-serves p v5 vs e = subst (λ (v : List ℕ). PopupServed (popup Empty p (v1 ∷ v2 ∷ v3 ∷ v4 ∷ v ∷ vs)) dst src k) (sym e) by
     where
-      far : (p : Bool) → 0 ≡ placeOf (byte ∷ byte ∷ byte ∷ byte ∷ popupItems Empty p) ((dst ∷ []) ∷ (src ∷ []) ∷ (0x22 ∷ []) ∷ (0x01 ∷ []) ∷ v1 ∷ v2 ∷ v3 ∷ v4 ∷ [] ∷ vs) (farItem (byte ∷ byte ∷ byte ∷ byte ∷ popupItems Empty p))
+      far : (p : Bool) → 0 ≡ placeOf (byte ∷ byte ∷ byte ∷ byte ∷ popupItems Empty p)
+          ((dst ∷ []) ∷ (src ∷ []) ∷ (0x22 ∷ []) ∷ (0x01 ∷ []) ∷ v1 ∷ v2 ∷ v3 ∷ v4 ∷ [] ∷ vs)
+          (farItem (byte ∷ byte ∷ byte ∷ byte ∷ popupItems Empty p))
       far true = refl
       far false = refl
 
@@ -226,36 +240,45 @@ module _ (dst src k : ℕ) (v1 v2 v3 v4 : List ℕ) (p1 : okItem textItem v1 ≡
       by =
           let q = popup Empty p (v1 ∷ v2 ∷ v3 ∷ v4 ∷ [] ∷ vs) in
           let g = popup-held Empty p (v1 ∷ v2 ∷ v3 ∷ v4 ∷ [] ∷ vs) in
-          subst (λ (s : Layout). PopupBy q dst src s) (empty-layout dst src _ _ k v1 v2 (0 ∷ writeItems (valuesItems p) vs) p1 p2 (writeItems (valuesItems p) vs) refl) (g .0, (g .1, (omega arith, (omega arith, far p))))
+          let r = writeItems (valuesItems p) vs in
+          subst (λ (s : Layout). PopupBy q dst src s) (empty-layout dst src _ _ k v1 v2 (0 ∷ r) p1 p2 r refl)
+          (record { rows = g .0; direct = g .1; within = omega arith; near = omega arith; far = far p })
 
   selection-serves : (p : Bool) (f : ℕ) (w v5 v6 : List ℕ) (vs : List (List ℕ)) → v5 ≡ f ∷ w → okItem textItem (f ∷ w) ≡ true → (f ≡ 0 → ⊥)
       → PopupServed (popup Selection p (v1 ∷ v2 ∷ v3 ∷ v4 ∷ v5 ∷ v6 ∷ vs)) dst src k
-  selection-serves p f w v5 v6 vs e o z = subst (λ (v : List ℕ). PopupServed (popup Selection p (v1 ∷ v2 ∷ v3 ∷ v4 ∷ v ∷ v6 ∷ vs)) dst src k) (sym e) by
+  selection-serves p f w v5 v6 vs e o z =
+      subst (λ (v : List ℕ). PopupServed (popup Selection p (v1 ∷ v2 ∷ v3 ∷ v4 ∷ v ∷ v6 ∷ vs)) dst src k) (sym e) by
     where
       by : PopupServed (popup Selection p (v1 ∷ v2 ∷ v3 ∷ v4 ∷ (f ∷ w) ∷ v6 ∷ vs)) dst src k
       by =
           let q = popup Selection p (v1 ∷ v2 ∷ v3 ∷ v4 ∷ (f ∷ w) ∷ v6 ∷ vs) in
           let g = popup-held Selection p (v1 ∷ v2 ∷ v3 ∷ v4 ∷ (f ∷ w) ∷ v6 ∷ vs) in
           let r = writeItems (selectionItems ++ valuesItems p) (v6 ∷ vs) in
-          subst (λ (s : Layout). PopupBy q dst src s) (selection-layout dst src _ _ k v1 v2 (((f ∷ w) ++ 0 ∷ []) ++ r) p1 p2 f w r refl o z) (g .0, (g .1, (omega arith, (omega arith, omega arith))))
+          subst (λ (s : Layout). PopupBy q dst src s)
+          (selection-layout dst src _ _ k v1 v2 (((f ∷ w) ++ 0 ∷ []) ++ r) p1 p2 f w r refl o z)
+          (record { rows = g .0; direct = g .1; within = omega arith; near = omega arith; far = omega arith })
 
 -- additional data of one 00 has no label; a selection has one
 empty-of : (v : List ℕ) → okItem (text 0 0) v ≡ true → v ≡ []
 empty-of [] h = refl
 empty-of (b ∷ v) h = let o = both (leb (length (b ∷ v)) 0) (nonzero (b ∷ v)) h in absurd (omega (arith, leb-true (length (b ∷ v)) 0 (o .0)))
 
-label-of : (v : List ℕ) → okItem (text 1 51) v ≡ true → (f : ℕ) × ((w : List ℕ) × ((v ≡ f ∷ w) × ((okItem textItem (f ∷ w) ≡ true) × (f ≡ 0 → ⊥))))
+label-of : (v : List ℕ) → okItem (text 1 51) v ≡ true
+    → (f : ℕ) × ((w : List ℕ) × ((v ≡ f ∷ w) × ((okItem textItem (f ∷ w) ≡ true) × (f ≡ 0 → ⊥))))
 label-of [] h = let z : _≡_ {A = ℕ} 0 1 = cc in absurd (omega arith)
 label-of (f ∷ w) h =
     let t = both (leb (length (f ∷ w)) 51) (nonzero (f ∷ w)) h in
     (f, (w, (refl, (h, eqb-false f 0 (passed (eqb f 0) (nonzero w) (t .1) .0)))))
 
-popup-each : (c : ScreenAdditionalData) (p : Bool) (vs : List (List ℕ)) (dst src k : ℕ) → alone c p ≡ false → Each (popupItems c p) vs → PopupServed (popup c p vs) dst src k
+popup-each : (c : ScreenAdditionalData) (p : Bool) (vs : List (List ℕ)) (dst src k : ℕ) → alone c p ≡ false
+    → Each (popupItems c p) vs → PopupServed (popup c p vs) dst src k
 popup-each Absent true vs dst src k a e = let z : _≡_ {A = ℕ} 0 1 = cc in absurd (omega arith)
-popup-each Absent false vs dst src k a (one {v = v1} p1 (one {v = v2} p2 (one {v = v3} p3 (one {v = v4} p4 none)))) = absent-serves dst src k v1 v2 v3 v4 p1 p2
+popup-each Absent false vs dst src k a (one {v = v1} p1 (one {v = v2} p2 (one {v = v3} p3 (one {v = v4} p4 none)))) =
+    absent-serves dst src k v1 v2 v3 v4 p1 p2
 popup-each Empty p vs dst src k a (one {v = v1} p1 (one {v = v2} p2 (one {v = v3} p3 (one {v = v4} p4 (one {v = v5} {vs = us} p5 e))))) =
     empty-serves dst src k v1 v2 v3 v4 p1 p2 p v5 us (empty-of v5 p5)
-popup-each Selection p vs dst src k a (one {v = v1} p1 (one {v = v2} p2 (one {v = v3} p3 (one {v = v4} p4 (one {v = v5} p5 (one {v = v6} {vs = us} p6 e)))))) =
+popup-each Selection p vs dst src k a
+    (one {v = v1} p1 (one {v = v2} p2 (one {v = v3} p3 (one {v = v4} p4 (one {v = v5} p5 (one {v = v6} {vs = us} p6 e)))))) =
     let l = label-of v5 p5 in
     selection-serves dst src k v1 v2 v3 v4 p1 p2 p (l .0) (l .1 .0) v5 v6 us (l .1 .1 .0) (l .1 .1 .1 .0) (l .1 .1 .1 .1)
 
@@ -270,16 +293,25 @@ popup-serves (popup c v vs) n dst src k p o l e =
 
 -- ---- every command
 module _ (n dst src : ℕ) (t p : List ℕ) where
+  abbrev items : CommandPayload → List Item
+  items q = byte ∷ byte ∷ byte ∷ bodyItems q t
+
+  abbrev values : CommandPayload → List (List ℕ)
+  values q = (dst ∷ []) ∷ (src ∷ []) ∷ (familyId q ∷ []) ∷ bodyValues q t
+
   abbrev ServedBy : CommandPayload → Layout → Type 0
-  ServedBy q s = ServesAs (familyId q) (subOf q) (byte ∷ byte ∷ byte ∷ bodyItems q t) ((dst ∷ []) ∷ (src ∷ []) ∷ (familyId q ∷ []) ∷ bodyValues q t) s
+  ServedBy q s = ServesAs (familyId q) (subOf q) (items q) (values q) s
 
   others-serve : (q : CommandPayload) → NoPopup q → ServedBy q (layoutFor q n p)
-  others-serve q h = let g = held q t n p h in let r = by q h in (g .0, (g .1, r))
+  others-serve q h =
+      let g = held q t n p h in
+      let r = by q h in
+      record { rows = g .0; direct = g .1; within = r .0; near = r .1 .0; far = r .1 .1 }
     where
       by : (q : CommandPayload) → NoPopup q
           → (layoutFor q n p .end ≤ 32)
-          × ((layoutFor q n p .near ≡ placeOf (byte ∷ byte ∷ byte ∷ bodyItems q t) ((dst ∷ []) ∷ (src ∷ []) ∷ (familyId q ∷ []) ∷ bodyValues q t) (nearItem (familyId q) (subOf q)))
-          × (layoutFor q n p .far ≡ placeOf (byte ∷ byte ∷ byte ∷ bodyItems q t) ((dst ∷ []) ∷ (src ∷ []) ∷ (familyId q ∷ []) ∷ bodyValues q t) (farItem (byte ∷ byte ∷ byte ∷ bodyItems q t))))
+          × ((layoutFor q n p .near ≡ placeOf (items q) (values q) (nearItem (familyId q) (subOf q)))
+          × (layoutFor q n p .far ≡ placeOf (items q) (values q) (farItem (items q))))
       by (Fc ForceDisarm) h = (omega arith, (refl, refl))
       by (Fc ScaleChannel) h = (omega arith, (refl, refl))
       by (Osd c) h = (omega arith, (refl, refl))
@@ -312,7 +344,8 @@ module _ (n dst src : ℕ) (t p : List ℕ) where
       by (Ack a) h = (omega arith, (refl, refl))
 
 serves-by : (q : CommandPayload) (n dst src k : ℕ) (b p : List ℕ) → Bytes b → length b ≡ 55 → madeBeside q n b ≡ true
-    → p ≡ (dst ∷ src ∷ familyId q ∷ writeItems (bodyItems q (take n b)) (bodyValues q (take n b))) ++ k ∷ [] → ServedBy n dst src (take n b) p q (layoutFor q n p)
+    → p ≡ (dst ∷ src ∷ familyId q ∷ writeItems (bodyItems q (take n b)) (bodyValues q (take n b))) ++ k ∷ []
+    → ServedBy n dst src (take n b) p q (layoutFor q n p)
 serves-by (Fc c) n dst src k b p y l m e = others-serve n dst src (take n b) p (Fc c) tt
 serves-by (Osd c) n dst src k b p y l m e = others-serve n dst src (take n b) p (Osd c) tt
 serves-by (Vtx c) n dst src k b p y l m e = others-serve n dst src (take n b) p (Vtx c) tt
@@ -323,13 +356,15 @@ serves-by (FlowControl c) n dst src k b p y l m e = others-serve n dst src (take
 serves-by (Screen PopupMessageStart) n dst src k b p y l m e =
     let r = popup-kept n b y l m in
     popup-serves (popupIn (take n b)) n dst src k p (r .0) (ap length (r .1 .0) ∙ r .1 .1 .1 .0) e
-serves-by (Screen (SelectionReturnValue v r)) n dst src k b p y l m e = others-serve n dst src (take n b) p (Screen (SelectionReturnValue v r)) tt
+serves-by (Screen (SelectionReturnValue v r)) n dst src k b p y l m e =
+    others-serve n dst src (take n b) p (Screen (SelectionReturnValue v r)) tt
 serves-by (Ack a) n dst src k b p y l m e = others-serve n dst src (take n b) p (Ack a) tt
 
 -- THE law: on what the writer makes of it, the layout that the code finds serves the command
 pub serves : (c : DirectCommands) → Sound c → (p : List ℕ) → p ≡ payloadOf c → Serves c (layoutFor (c .payload) (c .len) p)
 serves c z p e =
-    serves-by (c .payload) (c .len) (c .«dst_addr») (c .«src_addr») (checkOf commandPolynomial (0x32 ∷ itemsLaid c)) (c .bytes) p (z .stored) (z .size) (z .isMade) (e ∙ sound-laid c z)
+    serves-by (c .payload) (c .len) (c .«dst_addr») (c .«src_addr») (checkOf commandPolynomial (0x32 ∷ itemsLaid c))
+    (c .bytes) p (z .stored) (z .size) (z .isMade) (e ∙ sound-laid c z)
 
 -- ---- what is read is judged
 -- read, and not as written
@@ -387,7 +422,8 @@ module _ (q : CommandPayload) (n : ℕ) (p : List ℕ) (s : Layout) (d : s ≡ l
   -- bit 7 of a pit byte set
   judged-set : hasPit q ≡ true → 127 < getD p 4 0 → OpensRead q n p (Refused NotAsWritten)
   judged-set t g c e f h =
-      let k : PitClear q (payloadOf c) = subst (λ (r : CommandPayload). PitClear r (payloadOf c)) e (written-clear c (read-sound p c y h)) in
+      let k : PitClear q (payloadOf c) = subst (λ (r : CommandPayload). PitClear r (payloadOf c)) e
+      (written-clear c (read-sound p c y h)) in
       differs p c h (λ i. let l : getD p 4 0 < 128 = pit-of q p t .1 .0 (subst (PitClear q) (sym i) k) in omega arith)
 
   -- as written
@@ -397,7 +433,7 @@ module _ (q : CommandPayload) (n : ℕ) (p : List ℕ) (s : Layout) (d : s ≡ l
       let u : layoutFor (c .payload) (c .len) p ≡ s = rw (e, f) (sym d) in
       let k : PitClear (c .payload) p = rw e (pit-clear q p g) in
       let w : p ≡ payloadOf c = as-written p c y h (l ∙ size-read c e f h) k in
-      (c, (z, (w, subst (λ (r : Layout). Serves c r) u (serves c z p w))))
+      record { command = c; sound = z; written = w; served = subst (λ (r : Layout). Serves c r) u (serves c z p w) }
 
   -- the length decides where no such bit is set
   judged-fits : (hasPit q ≡ false) ⊎ (getD p 4 0 < 128) → OpensRead q n p (fitting s (length p))
@@ -408,12 +444,14 @@ module _ (q : CommandPayload) (n : ℕ) (p : List ℕ) (s : Layout) (d : s ≡ l
       by false e = judged-longer (eqb-false (length p) (s .size) e)
 
 -- the code's answer, of a command that has no pit byte
-pub judged : (q k : CommandPayload) (n : ℕ) (p : List ℕ) (s : Layout) (r : Opening) → q ≡ k → s ≡ layoutFor k n p → hasPit k ≡ false → Bytes p
+pub judged : (q k : CommandPayload) (n : ℕ) (p : List ℕ) (s : Layout) (r : Opening) → q ≡ k → s ≡ layoutFor k n p
+    → hasPit k ≡ false → Bytes p
     → r ≡ fitting s (length p) → OpensRead q n p r
 judged q k n p s r e d f y g = rw (e, g) (judged-fits k n p s d y (inl f))
 
 -- ---- of a VTX command: bit 7 of a pit byte is set, or not
-pub unset-set : (c : VtxCommand) (p : List ℕ) (o : Opening) → vtxPit c ≡ true → 4 < length p → 127 < getD p 4 0 → Refused NotAsWritten ≡ unset c p o
+pub unset-set : (c : VtxCommand) (p : List ℕ) (o : Opening) → vtxPit c ≡ true → 4 < length p → 127 < getD p 4 0
+    → Refused NotAsWritten ≡ unset c p o
 unset-set c p o h i j = rw (h, lt-ltb 4 (length p) i, lt-ltb 127 (getD p 4 0) j)
 
 pub unset-clear : (c : VtxCommand) (p : List ℕ) (o : Opening) → (getD p 4 0 ≤ 127) ⊎ ((length p ≤ 4) ⊎ (vtxPit c ≡ false)) → o ≡ unset c p o
@@ -431,14 +469,17 @@ unset-clear c p o (inr (inl h)) = rw (le-ltb 4 (length p) h) (by (vtxPit c))
 unset-clear c p o (inr (inr h)) = rw h
 
 pub judged-vtx : (q : CommandPayload) (c : VtxCommand) (n : ℕ) (p : List ℕ) (r : Opening) → q ≡ Vtx c → Bytes p
-    → r ≡ unset c p (fitting (vtxLayout c) (length p)) → OpensRead q n p r
+    → r ≡ vtxOpening c p → OpensRead q n p r
 judged-vtx q c n p r e y g = rw (e, g) (by (vtxPit c) (ltb 4 (length p)) (ltb 127 (getD p 4 0)) refl refl refl)
   where
-    low : (hasPit (Vtx c) ≡ false) ⊎ (getD p 4 0 < 128) → OpensRead (Vtx c) n p (fitting (vtxLayout c) (length p))
+    fit : Opening
+    fit = fitting (vtxLayout c) (length p)
+
+    low : (hasPit (Vtx c) ≡ false) ⊎ (getD p 4 0 < 128) → OpensRead (Vtx c) n p fit
     low = judged-fits (Vtx c) n p (vtxLayout c) refl y
 
     by : (t u v : Bool) → vtxPit c ≡ t → ltb 4 (length p) ≡ u → ltb 127 (getD p 4 0) ≡ v
-        → OpensRead (Vtx c) n p (pick t (pick u (pick v (Refused NotAsWritten) (fitting (vtxLayout c) (length p))) (fitting (vtxLayout c) (length p))) (fitting (vtxLayout c) (length p)))
+        → OpensRead (Vtx c) n p (pick t (pick u (pick v (Refused NotAsWritten) fit) fit) fit)
     by true true true h i j = judged-set (Vtx c) n p (vtxLayout c) refl y h (ltb-true 127 (getD p 4 0) j)
     by true true false h i j = low (inr (let l = ltb-false 127 (getD p 4 0) j in omega (arith, l)))
     by true false v h i j = low (inr (let l = List·getD-eq-default p 0 (ltb-false 4 (length p) i) in omega (arith, l)))
@@ -456,14 +497,16 @@ read-as p x q n h e =
     (c, (cc, (cc, g .1 .0)))
 
 -- the stored bytes have room in what was read
-pub read-room : (p : List ℕ) (x : KindRead) (q : CommandPayload) (n : ℕ) → Bytes p → toldKind x ≡ readKind p → x ≡ GotKind q n → n + 4 ≤ length p
+pub read-room : (p : List ℕ) (x : KindRead) (q : CommandPayload) (n : ℕ) → Bytes p → toldKind x ≡ readKind p
+    → x ≡ GotKind q n → n + 4 ≤ length p
 read-room p x q n y h e =
     let g = read-as p x q n h e in
     let c = g .0 in
     let r = stored-room c (read-sound p c y (g .1 .1 .1)) in
     omega (arith, r, read-writable p c y (g .1 .1 .1) .1 .0, g .1 .1 .0)
 
-pub opens-judged : (p : List ℕ) (x : KindRead) (q : CommandPayload) (n : ℕ) (r : Opening) → toldKind x ≡ readKind p → x ≡ GotKind q n → OpensRead q n p r
+pub opens-judged : (p : List ℕ) (x : KindRead) (q : CommandPayload) (n : ℕ) (r : Opening) → toldKind x ≡ readKind p
+    → x ≡ GotKind q n → OpensRead q n p r
     → Opens p r
 opens-judged p x q n r h e j = let g = read-as p x q n h e in j (g .0) (g .1 .0) (g .1 .1 .0) (g .1 .1 .1)
 

@@ -48,7 +48,8 @@ module _ (κs : Lfts 1) where
       let f = k .given .1 .0 in
       let n = k .given .1 .1 .0 in
       let r : k .answer ≡ numberIn (editCommand p f n) = k .meets .0 ∙ ap (λ (s : List ℕ). numberIn (editCommand s f n)) (h .0) in
-      let q : now (k .left .0) ≡ bytesLeft p (editCommand p f n) = k .meets .1 ∙ ap (λ (s : List ℕ). bytesLeft s (editCommand s f n)) (h .0) in
+      let q : now (k .left .0) ≡ bytesLeft p (editCommand p f n) = k .meets .1
+      ∙ ap (λ (s : List ℕ). bytesLeft s (editCommand s f n)) (h .0) in
       ap₂ (λ (x : Done) (l : List Done). x ∷ l) (ap₂ (λ (x : ℕ) (s : List ℕ). done f n x s) r q)
       (as-defined (now (k .left .0)) ks (h .1) ∙ ap (λ (s : List ℕ). doneFrom s (map editOf ks)) q)
 
@@ -62,9 +63,11 @@ module _ (κs : Lfts 1) where
 -- ---- `edit_list`: at the end of the list the payload is what the writer makes afresh of the command with the accepted edits, each
 -- answer byte says whether the command so far had the field and the range, and only bytes that hold one of the fields, and the last,
 -- differ
-pub list-demanded : (κs : Lfts 3) (a : Dens κs list-kinds.ps) (x : resT list-kinds.r κs .Denot) (s : AtExit (endedOf 3 list-kinds.ps list-kinds.r) κs)
+pub list-demanded : (κs : Lfts 3) (a : Dens κs list-kinds.ps) (x : resT list-kinds.r κs .Denot)
+    (s : AtExit (endedOf 3 list-kinds.ps list-kinds.r) κs)
     → list.Post κs a x s
-    → (c : DirectCommands) (room : ℕ) → c .«dst_addr» < 256 → c .«src_addr» < 256 → Typed c → stopWriting c room ≡ 0 → now (a .0) ≡ payloadOf c
+    → (c : DirectCommands) (room : ℕ) → c .«dst_addr» < 256 → c .«src_addr» < 256 → Typed c → stopWriting c room ≡ 0
+    → now (a .0) ≡ payloadOf c
     → stopList (length (now (a .1 .0))) (length (now (a .1 .1 .0))) ≡ 0
     → (x ≡ 0)
     × ((now (s .0) ≡ payloadOf (withEdits c (editsIn (now (a .1 .0)))))
@@ -73,18 +76,21 @@ pub list-demanded : (κs : Lfts 3) (a : Dens κs list-kinds.ps) (x : resT list-k
 list-demanded κs a x s h c room d r t w e k =
     let es = editsIn (now (a .1 .0)) in
     let m = any-edits c room d r t w es in
-    let left : now (s .0) ≡ bytesAfter (payloadOf c) es = h .1 .0 ∙ ap (λ (n : ℕ). leftBy n (now (a .0)) es) k ∙ ap (λ (p : List ℕ). bytesAfter p es) e in (
+    let left : now (s .0) ≡ bytesAfter (payloadOf c) es = h .1 .0 ∙ ap (λ (n : ℕ). leftBy n (now (a .0)) es) k
+    ∙ ap (λ (p : List ℕ). bytesAfter p es) e in (
       h .0 ∙ k,
       (
         left ∙ bytes-at-end c (payloadOf c) es m,
         (
-          h .1 .1 ∙ ap (λ (n : ℕ). leaves n (numbersOf (now (a .0)) es) (now (a .1 .1 .0))) k ∙ ap (λ (p : List ℕ). sets (now (a .1 .1 .0)) 0 (numbersOf p es)) e
+          h .1 .1 ∙ ap (λ (n : ℕ). leaves n (numbersOf (now (a .0)) es) (now (a .1 .1 .0))) k
+              ∙ ap (λ (p : List ℕ). sets (now (a .1 .1 .0)) 0 (numbersOf p es)) e
               ∙ ap (λ (l : List ℕ). sets (now (a .1 .1 .0)) 0 l) (numbers-are c (payloadOf c) es m),
           there es (now (a .0)) (now (s .0)) e left (only-those c (payloadOf c) es m),
         ),
       ),
     )
   where
-    there : (es : List Edit) (p q : List ℕ) → p ≡ payloadOf c → q ≡ bytesAfter (payloadOf c) es → OnlyThose c es (payloadOf c) (bytesAfter (payloadOf c) es) → OnlyThose c es p q
+    there : (es : List Edit) (p q : List ℕ) → p ≡ payloadOf c → q ≡ bytesAfter (payloadOf c) es
+        → OnlyThose c es (payloadOf c) (bytesAfter (payloadOf c) es) → OnlyThose c es p q
     there es p q e g o =
         subst (λ (x : List ℕ). OnlyThose c es x q) (sym e) (subst (λ (y : List ℕ). OnlyThose c es (payloadOf c) y) (sym g) o)

@@ -42,7 +42,7 @@ abbrev pub editRows : List Example
 editRows =
     -- M2: "an edit answers 6"
     edits m2 1 0 (refused 6 0)
-    -- M3: "field 20 set to 5000 gives C8 EA 08 02 13 88 90"
+    -- M3: "field 20 set to 5000 gives `C8 EA 08 02 13 88 90`"
     ∷ edits m3 20 5000 (got m3')
     -- M4: "On M3, field 20 set to 4999 is 8; field 24 is 7."
     ∷ edits m3 20 4999 (refused 8 0)
@@ -91,23 +91,31 @@ m3-sound = record {
 }
 
 -- ---- the rows of edits
-edited-by : (p : List ℕ) (f n : ℕ) (c : DirectCommands) → readCommand p ≡ got c → edited p f n ≡ andThen (andThen (pick (same (payloadOf c) p) (got c) (refused 6 0)) (λ d. setField d f n)) (λ d. got (payloadOf d))
-edited-by p f n c e = ap (λ (a : Answer DirectCommands). andThen (andThen (andThen a (λ d. pick (same (payloadOf d) p) (got d) (refused 6 0))) (λ d. setField d f n)) (λ d. got (payloadOf d))) e
+-- what an edit leaves, from what was opened
+abbrev leftFrom : ℕ → ℕ → Answer DirectCommands → Answer (List ℕ)
+leftFrom f n a = andThen (andThen a (λ c. setField c f n)) (λ c. got (payloadOf c))
+
+-- of a payload p that was read as c, of which the writer makes q
+edited-by : (p q : List ℕ) (f n : ℕ) (c : DirectCommands) → readCommand p ≡ got c → payloadOf c ≡ q
+    → edited p f n ≡ leftFrom f n (pick (same q p) (got c) (refused 6 0))
+edited-by p q f n c e g =
+    ap (λ (a : Answer DirectCommands). leftFrom f n (andThen a (λ d. pick (same (payloadOf d) p) (got d) (refused 6 0)))) e
+    ∙ ap (λ (s : List ℕ). leftFrom f n (pick (same s p) (got c) (refused 6 0))) g
 
 m2-edit : edited m2 1 0 ≡ refused 6 0
-m2-edit = edited-by m2 1 0 disarm m2-read ∙ ap (λ (q : List ℕ). andThen (andThen (pick (same q m2) (got disarm) (refused 6 0)) (λ d. setField d 1 0)) (λ d. got (payloadOf d))) disarm-laid
+m2-edit = edited-by m2 m1 1 0 disarm m2-read disarm-laid
 
-m3-edit : (f n : ℕ) → edited m3 f n ≡ andThen (setField (frequency 5800) f n) (λ d. got (payloadOf d))
-m3-edit f n =
-    edited-by m3 f n (frequency 5800) m3-read
-    ∙ ap (λ (q : List ℕ). andThen (andThen (pick (same q m3) (got (frequency 5800)) (refused 6 0)) (λ d. setField d f n)) (λ d. got (payloadOf d))) m3-laid
+m3-edit : (f n : ℕ) → edited m3 f n ≡ leftFrom f n (got (frequency 5800))
+m3-edit f n = edited-by m3 m3 f n (frequency 5800) m3-read m3-laid
 
 edits-marked : map worked editRows ≡ editRows
-edits-marked =
-    ap (λ (a : Answer (List ℕ)). edits m2 1 0 a ∷ map worked (edits m3 20 5000 (got m3') ∷ edits m3 20 4999 (refused 8 0) ∷ edits m3 24 0 (refused 7 0) ∷ [])) m2-edit
-    ∙ ap (λ (a : Answer (List ℕ)). edits m2 1 0 (refused 6 0) ∷ edits m3 20 5000 a ∷ map worked (edits m3 20 4999 (refused 8 0) ∷ edits m3 24 0 (refused 7 0) ∷ []))
-    (m3-edit 20 5000 ∙ ap (λ (p : List ℕ). got p) m3'-laid)
-    ∙ ap₂ (λ (a b : Answer (List ℕ)). edits m2 1 0 (refused 6 0) ∷ edits m3 20 5000 (got m3') ∷ edits m3 20 4999 a ∷ edits m3 24 0 b ∷ []) (m3-edit 20 4999) (m3-edit 24 0)
+edits-marked = same-rows m2-edit (m3-edit 20 5000 ∙ ap (λ (p : List ℕ). got p) m3'-laid) (m3-edit 20 4999) (m3-edit 24 0)
+  where
+    rows : Answer (List ℕ) → Answer (List ℕ) → Answer (List ℕ) → Answer (List ℕ) → List Example
+    rows a b c d = edits m2 1 0 a ∷ edits m3 20 5000 b ∷ edits m3 20 4999 c ∷ edits m3 24 0 d ∷ []
+
+    same-rows : {a a' b b' c c' d d' : Answer (List ℕ)} → a ≡ a' → b ≡ b' → c ≡ c' → d ≡ d' → rows a b c d ≡ rows a' b' c' d'
+    same-rows e f g h = rw (e, f, g, h)
 
 -- ---- THE statement
 rows-worked : (l : List base.Example) → map worked (map row l) ≡ map row (map base.worked l)
@@ -122,4 +130,5 @@ pub marked : map worked examples ≡ examples
 marked =
     map-append (map row earlier) (editRows ++ map row later)
     ∙ ap₂ (λ (k l : List Example). k ++ l) (rows-worked earlier ∙ ap (map row) earlier-marked)
-    (map-append editRows (map row later) ∙ ap₂ (λ (k l : List Example). k ++ l) edits-marked (rows-worked later ∙ ap (map row) later-marked))
+    (map-append editRows (map row later) ∙ ap₂ (λ (k l : List Example). k ++ l) edits-marked
+    (rows-worked later ∙ ap (map row) later-marked))

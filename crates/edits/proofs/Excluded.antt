@@ -30,7 +30,8 @@ room = 0 ∷ 0 ∷ []
 -- what edits leave of M3
 leave : (es : List Edit) → bytesAfter m3 es ≡ payloadOf (withEdits (frequency 5800) es)
 leave es =
-    ap (λ (p : List ℕ). bytesAfter p es) (sym m3-laid) ∙ bytes-at-end (frequency 5800) (payloadOf (frequency 5800)) es (demanded (frequency 5800) m3-sound es)
+    ap (λ (p : List ℕ). bytesAfter p es) (sym m3-laid) ∙ bytes-at-end (frequency 5800) (payloadOf (frequency 5800)) es
+    (demanded (frequency 5800) m3-sound es)
 
 module _ (κs : Lfts 1) where
   -- the contract of `edit` allows, for a payload, a field and a number, these bytes to be left
@@ -44,7 +45,8 @@ module _ (κs : Lfts 1) where
   pub changes-nothing : Edits m3 20 5000 m3 → ⊥
   changes-nothing (a, (x, (s, (e, (f, (n, (q, m))))))) =
       let left : m3 ≡ bytesLeft m3 (editCommand m3 20 5000) =
-      sym q ∙ m .1 ∙ ap (λ (p : List ℕ). bytesLeft p (editCommand p (a .1 .0) (a .1 .1 .0))) e ∙ ap (λ (k : ℕ). bytesLeft m3 (editCommand m3 k (a .1 .1 .0))) f
+      sym q ∙ m .1 ∙ ap (λ (p : List ℕ). bytesLeft p (editCommand p (a .1 .0) (a .1 .1 .0))) e
+      ∙ ap (λ (k : ℕ). bytesLeft m3 (editCommand m3 k (a .1 .1 .0))) f
       ∙ ap (λ (k : ℕ). bytesLeft m3 (editCommand m3 20 k)) n in
       let z = ap (λ (p : List ℕ). getD p 4 0) (left ∙ (leave (edit 20 5000 ∷ []) ∙ m3'-laid)) in
       omega arith
@@ -62,6 +64,7 @@ module _ (κs : Lfts 3) where
   only-first (a, (x, (s, (e, (f, (r, (q, m))))))) =
       let by : List ℕ → List ℕ → List ℕ → List ℕ = λ p es b. leftBy (stopList (length es) (length b)) p (editsIn es) in
       let left : m3' ≡ bytesAfter m3 (editsIn andBack) =
-      sym q ∙ m .1 .0 ∙ ap (λ (p : List ℕ). by p (now (a .1 .0)) (now (a .1 .1 .0))) e ∙ ap (λ (l : List ℕ). by m3 l (now (a .1 .1 .0))) f ∙ ap (λ (b : List ℕ). by m3 andBack b) r in
+      sym q ∙ m .1 .0 ∙ ap (λ (p : List ℕ). by p (now (a .1 .0)) (now (a .1 .1 .0))) e
+      ∙ ap (λ (l : List ℕ). by m3 l (now (a .1 .1 .0))) f ∙ ap (λ (b : List ℕ). by m3 andBack b) r in
       let z = ap (λ (p : List ℕ). getD p 4 0) (left ∙ (leave (editsIn andBack) ∙ m3-laid)) in
       omega arith

@@ -9,14 +9,11 @@ use lib.ListN.{length, drop, getD}
 use lib.Dec.{ltb, eqb}
 use borrow.Author.Tests.{lt-ltb, le-ltb, eq-eqb, ne-eqb}
 use Rattle.codec.specs.Pick.{pick}
-use Rattle.edits.specs.Table.{Entry, table, noRow, rowWith, located, rowIn, rowFor, indexIn, indexFor, rowAt}
+use Rattle.edits.specs.Table.{Entry, table, rowNumbers, noRow, noFieldRow, located, rowIn, rowFor, indexIn, indexFor, rowAt}
 use Rattle.edits.specs.declared.table.Field.{Field}
 use Rattle.edits.specs.declared.table.FieldRow.{FieldRow}
 
 -- ---- the search, one row at a time
-abbrev pub numbers : List Entry → List ℕ
-numbers l = map (λ (e : Entry). e .number) l
-
 -- the numbers of the code's table
 abbrev pub firsts : List Field → List ℕ
 firsts t = map (λ (x : Field). x .0) t
@@ -26,12 +23,12 @@ at-first [] k d h = absurd (omega arith)
 at-first (x ∷ t) zero d h = refl
 at-first (x ∷ t) (suc k) d h = at-first t k d (omega arith)
 
-hit : (l : List Entry) (k i f : ℕ) → k < length (numbers l) → getD (numbers l) k 0 ≡ f → indexIn (drop k l) i f ≡ i
+hit : (l : List Entry) (k i f : ℕ) → k < length (rowNumbers l) → getD (rowNumbers l) k 0 ≡ f → indexIn (drop k l) i f ≡ i
 hit [] k i f a h = absurd (omega arith)
 hit (e ∷ l) zero i f a h = rw (eq-eqb f (e .number) (sym h))
 hit (e ∷ l) (suc k) i f a h = hit l k i f (omega arith) h
 
-miss : (l : List Entry) (k i f : ℕ) → k < length (numbers l) → (getD (numbers l) k 0 ≡ f → ⊥)
+miss : (l : List Entry) (k i f : ℕ) → k < length (rowNumbers l) → (getD (rowNumbers l) k 0 ≡ f → ⊥)
     → indexIn (drop k l) i f ≡ indexIn (drop (suc k) l) (i + 1) f
 miss [] k i f a h = absurd (omega arith)
 miss (e ∷ l) zero i f a h = rw (ne-eqb f (e .number) (λ g. h (sym g)))
@@ -39,17 +36,18 @@ miss (e ∷ l) (suc k) i f a h = miss l k i f (omega arith) h
 
 -- the code's table has the numbers of the table
 pub record Same (t : List Field) : Type 0 where
-  pub same : firsts t ≡ numbers table
+  pub same : firsts t ≡ rowNumbers table
 
 abbrev pub blank : Field
 blank = record { 0 = 0; 1 = 0; 2 = 0; 3 = 0; 4 = 0; 5 = 0; 6 = 0; 7 = 0 }
 
-number-at : {t : List Field} → Same t → (i : ℕ) → i < 32 → getD (numbers table) i 0 ≡ getD t i blank .0
+number-at : {t : List Field} → Same t → (i : ℕ) → i < 32 → getD (rowNumbers table) i 0 ≡ getD t i blank .0
 number-at {t = t} s i a =
     let b : i < length (firsts t) = rw (s .same) a in
     sym (ap (λ (l : List ℕ). getD l i 0) (s .same)) ∙ at-first t i blank b
 
-pub found : {t : List Field} → Same t → (f i : ℕ) → i < 32 → indexFor f ≡ indexIn (drop i table) i f → getD t i blank .0 ≡ f → i ≡ indexFor f
+pub found : {t : List Field} → Same t → (f i : ℕ) → i < 32 → indexFor f ≡ indexIn (drop i table) i f
+    → getD t i blank .0 ≡ f → i ≡ indexFor f
 found s f i a g h = sym (g ∙ hit table i i f a (number-at s i a ∙ h))
 
 pub further : {t : List Field} → Same t → (f i : ℕ) → i < 32 → indexFor f ≡ indexIn (drop i table) i f → (getD t i blank .0 ≡ f → ⊥)
@@ -64,7 +62,7 @@ ended f i e = rw e
 -- ---- the row of the index that was found
 abbrev Row-of : ℕ → ℕ → ℕ → ℕ → List Entry → ℕ → FieldRow → Type 0
 Row-of f near far i l j r =
-    ((k : ℕ) × ((k < length l) × ((j ≡ i + k) × (r ≡ located (i + k) (getD l k noRow) near far)))) ⊎ ((j ≡ i + length l) × (r ≡ rowWith 32 1 0 0 0 1 1))
+    ((k : ℕ) × ((k < length l) × ((j ≡ i + k) × (r ≡ located (i + k) (getD l k noRow) near far)))) ⊎ ((j ≡ i + length l) × (r ≡ noFieldRow))
 
 row-of : (f near far i : ℕ) (l : List Entry) → Row-of f near far i l (indexIn l i f) (rowIn l i f near far)
 row-of f near far i [] = inr (omega arith, refl)
@@ -110,5 +108,5 @@ none-from i k (suc n) A h a =
     let b : k + 1 + n ≤ i = none-from i (k + 1) n (A × (i ≡ k → ⊥)) h (omega (arith, ne)) in
     omega arith
 
-pub at-none : (i near far : ℕ) → NoneFrom i 0 32 (Unit {0}) → rowAt i near far ≡ rowWith 32 1 0 0 0 1 1
+pub at-none : (i near far : ℕ) → NoneFrom i 0 32 (Unit {0}) → rowAt i near far ≡ noFieldRow
 at-none i near far h = let b : 0 + 32 ≤ i = none-from i 0 32 (Unit {0}) h (omega arith) in rw (le-ltb i 32 b)

@@ -32,7 +32,7 @@ use Rattle.edits.specs.Change.{held, patched, changed}
 pub field-part : (x u m : ℕ) → x / u % m * u ≤ x
 field-part x u m = le-trans (mul-le-mul-right u (mod-le (x / u) m)) (div-mul-le-self x u)
 
-module _ (s : List ℕ) (at v w : ℕ) (y : Bytes s) (e : v ≡ w) (l : w ≤ 4) (h : at + w ≤ length s) where
+module _ (s : List ℕ) (at v w : ℕ) (y : Bytes s) (e : v ≡ w) (l : w ≤ 4) (h : at + w < length s) where
   -- a number of at most 4 bytes that are there is never refused
   number-got : readItem (number v 0 4294967295) (drop at s) ≡ got (numberOf (held s at w) ∷ [])
   number-got =
@@ -41,9 +41,10 @@ module _ (s : List ℕ) (at v w : ℕ) (y : Bytes s) (e : v ≡ w) (l : w ≤ 4)
       let b = bytes-number (held s at w) w (length-take-le w (drop at s) d) (bytes-take w (drop at s) (bytes-drop at s y)) .1 in
       let q : 8 * w ≤ 32 = omega arith in
       let k : n < 2 ^ 32 = lt-of-lt-of-le b (pow-mono q) in
-      rw (e, number-is w 0 4294967295 s at n h (refl, b), le-ltb n 0 (omega arith), le-ltb 4294967295 n (omega arith))
+      rw (e, number-is w 0 4294967295 s at n (omega arith) (refl, b), le-ltb n 0 (omega arith), le-ltb 4294967295 n (omega arith))
 
-  pub number-held : (r : NumberRead) (x : ℕ) → r ≡ Got x → toldNumber r ≡ readItem (number v 0 4294967295) (drop at s) → x ≡ numberOf (held s at w)
+  pub number-held : (r : NumberRead) (x : ℕ) → r ≡ Got x → toldNumber r ≡ readItem (number v 0 4294967295) (drop at s)
+      → x ≡ numberOf (held s at w)
   number-held r x f t =
       let g : got (x ∷ []) ≡ got (numberOf (held s at w) ∷ []) = (rw f at t) ∙ number-got in cc
 
@@ -53,22 +54,24 @@ module _ (s : List ℕ) (at v w : ℕ) (y : Bytes s) (e : v ≡ w) (l : w ≤ 4)
       let z : _≡_ {A = ℕ} 0 1 = cc in omega arith
 
 -- what is stored where the bytes have room
-pub field-put : (s t : List ℕ) (at v w u m n x k : ℕ) → v ≡ w → at + w ≤ length s → x ≡ numberOf (held s at w) → k ≡ replaced u m x n
+pub field-put : (s t : List ℕ) (at v w u m n x k : ℕ) → v ≡ w → at + w < length s → x ≡ numberOf (held s at w) → k ≡ replaced u m x n
     → t ≡ putAt s at (bytesOf v k) → t ≡ patched s at w u m n
 field-put s t at v w u m n x k e h f g p =
     let y = replaced u m (numberOf (held s at w)) n in
     let q : t ≡ putAt s at (bytesOf w y) = rw (e, g, f) at p in
-    q ∙ put-fits s at (bytesOf w y) (rw length-bytesOf h)
+    q ∙ put-fits s at (bytesOf w y) (rw length-bytesOf (omega arith))
 
 -- the last byte is as it was, and the checks are those of the bytes of the field
 pub check-put : (s t : List ℕ) (at w u m n a b f : ℕ) → at + w < length s → t ≡ patched s at w u m n
-    → a ≡ checkFrom commandPolynomial 0 (take (at + w - at) (drop at s)) → b ≡ checkFrom commandPolynomial 0 (take (at + w - at) (drop at t))
+    → a ≡ checkFrom commandPolynomial 0 (take (at + w - at) (drop at s)) → b ≡ checkFrom commandPolynomial 0
+    (take (at + w - at) (drop at t))
     → f ≡ checkFrom commandPolynomial (plus a b) (replicate (length s - 1 - (at + w)) 0)
     → set t (length s - 1) (plus (getD t (length s - 1) 0) f) ≡ changed s at w u m n
 check-put s t at w u m n a b f h p x y z =
     let d : at + w - at ≡ w = omega arith in
     let c = bytesOf w (replaced u m (numberOf (held s at w)) n) in
-    let g : getD (patched s at w u m n) (length s - 1) 0 ≡ getD s (length s - 1) 0 = sets-behind s c at (length s - 1) (rw length-bytesOf (omega arith)) in
+    let g : getD (patched s at w u m n) (length s - 1) 0 ≡ getD s (length s - 1) 0 = sets-behind s c at (length s - 1)
+    (rw length-bytesOf (omega arith)) in
     rw (z, x, y, d, p, g)
 
 -- ---- one byte

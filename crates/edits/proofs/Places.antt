@@ -11,9 +11,10 @@ use borrow.Author.Tests.{le-ltb, lt-ltb, eq-eqb, ne-eqb}
 use Rattle.crc.specs.Check.{Bytes}
 use Rattle.crc.proofs.Laws.{bytes-take}
 use Rattle.codec.specs.Digits.{numberOf}
-use Rattle.codec.specs.Sheet.{Answer, got, number}
+use Rattle.codec.specs.Sheet.{Answer, got, long}
 use Rattle.codec.specs.Reading.{readItem}
 use Rattle.codec.specs.Told.{toldNumber, toldText, textIn}
+use Rattle.codec.specs.Taking.{ReadsText}
 use Rattle.codec.specs.declared.refusal.Refusal.{Refusal}
 use Rattle.codec.specs.declared.reader.NumberRead.{NumberRead}
 use Rattle.codec.specs.declared.reader.NumberRead.the-variants.{Got, Refused}
@@ -25,7 +26,8 @@ use Rattle.families.specs.Sheets.{textItem}
 use Rattle.edits.specs.Layout.{placeAfter, afterText, shown, selection, popupFrom, popupLayout}
 
 -- ---- the place after a text
-pub after-got : (s : List ℕ) (at n next : ℕ) (r : TextRead) → r ≡ GotText n next → (toldText s at r ≡ readItem textItem (drop at s)) × textIn s at r
+pub after-got : (s : List ℕ) (at n next : ℕ) (r : TextRead) → r ≡ GotText n next
+    → ReadsText 51 r s at
     → (next ≡ afterText s at) × (next ≤ length s)
 after-got s at n next r e h =
     let told : toldText s at (GotText n next) ≡ readItem textItem (drop at s) = rw e at (h .0) in
@@ -34,14 +36,16 @@ after-got s at n next r e h =
     let a : afterText s at ≡ at + (length (take n (drop at s)) + 1) = sym (ap (λ (x : Answer (List ℕ)). placeAfter at x) told) in
     (omega (arith, l, a, there .1), omega (arith, there .0, there .1))
 
-pub after-none : (s : List ℕ) (at : ℕ) (r : TextRead) (k : Refusal) → r ≡ RefusedText k → (toldText s at r ≡ readItem textItem (drop at s)) × textIn s at r
+pub after-none : (s : List ℕ) (at : ℕ) (r : TextRead) (k : Refusal) → r ≡ RefusedText k
+    → ReadsText 51 r s at
     → (0 ≡ afterText s at) × (0 ≤ length s)
 after-none s at r k e h =
     let told : toldText s at (RefusedText k) ≡ readItem textItem (drop at s) = rw e at (h .0) in
     (ap (λ (x : Answer (List ℕ)). placeAfter at x) told, omega arith)
 
 -- ---- a popup
-selection-from : (n : ℕ) (s : List ℕ) (b d : ℕ) → b + 2 < n + 4 → (getD s (b + 2) 0 ≡ 0 → ⊥) → d ≡ afterText s (b + 2) → selection n b d ≡ popupFrom n s b
+selection-from : (n : ℕ) (s : List ℕ) (b d : ℕ) → b + 2 < n + 4 → (getD s (b + 2) 0 ≡ 0 → ⊥) → d ≡ afterText s (b + 2)
+    → selection n b d ≡ popupFrom n s b
 selection-from n s b d h g e = rw (lt-ltb (b + 2) (n + 4) h, ne-eqb (getD s (b + 2) 0) 0 g, e)
 
 pub popup-selection : (n : ℕ) (s : List ℕ) (a b d : ℕ) → a ≡ afterText s 4 → b ≡ afterText s a → b + 2 < n + 4 → (getD s (b + 2) 0 ≡ 0 → ⊥)
@@ -59,7 +63,7 @@ popup-shown n s a b x y h = shown-from n s b h ∙ ap (λ (k : ℕ). popupFrom n
 
 -- ---- four bytes, big-endian
 long-is : (s : List ℕ) (at : ℕ) → Bytes s → at + 4 ≤ length s
-    → readItem (number 4 0 4294967295) (drop at s) ≡ got (numberOf (take 4 (drop at s)) ∷ [])
+    → readItem long (drop at s) ≡ got (numberOf (take 4 (drop at s)) ∷ [])
 long-is s at b h =
     let t = take 4 (drop at s) in
     let l : length t ≡ 4 = length-take-le 4 (drop at s) (rw length-drop (omega arith)) in
@@ -67,11 +71,11 @@ long-is s at b h =
     number-is 4 0 4294967295 s at (numberOf t) h (refl, m) ∙ rw (ltb-zero (numberOf t), le-ltb 4294967295 (numberOf t) (omega arith))
 
 pub long-got : (s : List ℕ) (at n : ℕ) (r : NumberRead) → Bytes s → at + 4 ≤ length s → r ≡ Got n
-    → toldNumber r ≡ readItem (number 4 0 4294967295) (drop at s) → n ≡ numberOf (take 4 (drop at s))
+    → toldNumber r ≡ readItem long (drop at s) → n ≡ numberOf (take 4 (drop at s))
 long-got s at n r b h e t = let k : toldNumber (Got n) ≡ got (numberOf (take 4 (drop at s)) ∷ []) = rw e at t ∙ long-is s at b h in cc
 
 pub long-not : (s : List ℕ) (at : ℕ) (r : NumberRead) (k : Refusal) → Bytes s → at + 4 ≤ length s → r ≡ Refused k
-    → toldNumber r ≡ readItem (number 4 0 4294967295) (drop at s) → 0 ≡ numberOf (take 4 (drop at s))
+    → toldNumber r ≡ readItem long (drop at s) → 0 ≡ numberOf (take 4 (drop at s))
 long-not s at r k b h e t =
     let f : toldNumber (Refused k) ≡ got (numberOf (take 4 (drop at s)) ∷ []) = rw e at t ∙ long-is s at b h in
     let z : _≡_ {A = ℕ} 0 1 = cc in absurd (omega arith)

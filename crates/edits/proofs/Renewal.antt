@@ -24,7 +24,8 @@ closed o = o ++ checkOf commandPolynomial (0x32 ∷ o) ∷ []
 around : (o : List ℕ) (at w : ℕ) → at + w ≤ length o → o ≡ take at o ++ (take w (drop at o) ++ drop (at + w) o)
 around o at w h =
     let e : drop w (drop at o) ≡ drop (at + w) o = drop-drop w at o in
-    sym (ap (λ (x : List ℕ). take at o ++ (take w (drop at o) ++ x)) (sym e) ∙ ap (λ (x : List ℕ). take at o ++ x) (take-append-drop w (drop at o)) ∙ take-append-drop at o)
+    sym (ap (λ (x : List ℕ). take at o ++ (take w (drop at o) ++ x)) (sym e) ∙ ap (λ (x : List ℕ). take at o ++ x)
+    (take-append-drop w (drop at o)) ∙ take-append-drop at o)
 
 stored : (o b : List ℕ) (at w : ℕ) → length b ≡ w → at + w ≤ length o → sets o at b ≡ take at o ++ (b ++ drop (at + w) o)
 stored o b at w l h =
@@ -47,7 +48,9 @@ held-closed o k at w h =
 module _ (o b : List ℕ) (at w : ℕ) (y : Bytes o) (z : Bytes b) (l : length b ≡ w) (h : at + w ≤ length o) where
   check-is : checkOf commandPolynomial (0x32 ∷ sets o at b)
       ≡ plus (checkOf commandPolynomial (0x32 ∷ o))
-      (checkFrom commandPolynomial (plus (checkFrom commandPolynomial 0 (held o at w)) (checkFrom commandPolynomial 0 b)) (replicate (length o - (at + w)) 0))
+      (checkFrom commandPolynomial
+      (plus (checkFrom commandPolynomial 0 (held o at w)) (checkFrom commandPolynomial 0 b))
+      (replicate (length o - (at + w)) 0))
   check-is =
       let a = held o at w in
       let hd = take at o in
@@ -55,10 +58,13 @@ module _ (o b : List ℕ) (at w : ℕ) (y : Bytes o) (z : Bytes b) (l : length b
       let n : length (drop at o) ≡ length o - at = length-drop at o in
       let p : length post ≡ length o - (at + w) = length-drop (at + w) o in
       let e : length a ≡ length b = length-take-le w (drop at o) (omega arith) ∙ sym l in
-      let r = check-renewed (0x32 ∷ hd) a b post (omega arith, bytes-take at o y) (bytes-take w (drop at o) (bytes-drop at o y)) z (bytes-drop (at + w) o y) e in
+      let r = check-renewed (0x32 ∷ hd) a b post (omega arith, bytes-take at o y)
+      (bytes-take w (drop at o) (bytes-drop at o y)) z (bytes-drop (at + w) o y) e in
       ap (λ (x : List ℕ). checkOf commandPolynomial (0x32 ∷ x)) (stored o b at w l h)
       ∙ r
-      ∙ ap₂ (λ (x : List ℕ) (q : ℕ). plus (checkOf commandPolynomial (0x32 ∷ x)) (checkFrom commandPolynomial (plus (checkFrom commandPolynomial 0 a) (checkFrom commandPolynomial 0 b)) (replicate q 0)))
+      ∙ ap₂ (λ (x : List ℕ) (q : ℕ). plus (checkOf commandPolynomial (0x32 ∷ x))
+      (checkFrom commandPolynomial (plus (checkFrom commandPolynomial 0 a) (checkFrom commandPolynomial 0 b))
+      (replicate q 0)))
       (sym (around o at w h)) p
 
   -- THE law: the changed opening closed is the closed one changed in place, its check renewed
@@ -69,7 +75,14 @@ module _ (o b : List ℕ) (at w : ℕ) (y : Bytes o) (z : Bytes b) (l : length b
       let s : sets (closed o) at b ≡ sets o at b ++ k ∷ [] = sets-left o (k ∷ []) b at (omega arith) in
       let m : at + w ≤ length (sets o at b) = omega (arith, length-sets o at b) in
       let x : renewal (closed o) (sets (closed o) at b) at w ≡ checkOf commandPolynomial (0x32 ∷ sets o at b) =
-      rw (n, s, getD-append-seam o k [] 0, held-closed o k at w h, held-closed (sets o at b) k at w m, held-after o b at w l h) (sym check-is) in
+      rw (
+        n,
+        s,
+        getD-append-seam o k [] 0,
+        held-closed o k at w h,
+        held-closed (sets o at b) k at w m,
+        held-after o b at w l h,
+      ) (sym check-is) in
       sym (rw (x, n, s, ← (length-sets o at b)) (set-append-seam (sets o at b) k [] (checkOf commandPolynomial (0x32 ∷ sets o at b))))
 
 pub bytes-front : (o : List ℕ) (k : ℕ) → Bytes (o ++ k ∷ []) → Bytes o
@@ -81,5 +94,8 @@ pub changed-closed : (o : List ℕ) (at w u m n : ℕ) → Bytes o → at + w �
 changed-closed o at w u m n y h =
     let k = checkOf commandPolynomial (0x32 ∷ o) in
     let b = bytesOf w (replaced u m (numberOf (held o at w)) n) in
-    ap (λ (x : List ℕ). set (sets (closed o) at (bytesOf w (replaced u m (numberOf x) n))) (length (closed o) - 1) (renewal (closed o) (sets (closed o) at (bytesOf w (replaced u m (numberOf x) n))) at w)) (held-closed o k at w h)
-    ∙ sym (renewed o b at w y (digit-bytes w (replaced u m (numberOf (held o at w)) n)) (length-bytesOf w (replaced u m (numberOf (held o at w)) n)) h)
+    ap (λ (x : List ℕ). set (sets (closed o) at (bytesOf w (replaced u m (numberOf x) n))) (length (closed o) - 1)
+    (renewal (closed o) (sets (closed o) at (bytesOf w (replaced u m (numberOf x) n))) at w))
+    (held-closed o k at w h)
+    ∙ sym (renewed o b at w y (digit-bytes w (replaced u m (numberOf (held o at w)) n))
+    (length-bytesOf w (replaced u m (numberOf (held o at w)) n)) h)

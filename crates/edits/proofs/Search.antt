@@ -12,7 +12,7 @@ use borrow.Author.Tests.{ltb-true, ltb-false, leb-true, eqb-true}
 use Rattle.codec.specs.Pick.{pick}
 use Rattle.codec.specs.Sheet.{got, refused}
 use Rattle.codec.proofs.Back.{both, passed}
-use Rattle.edits.specs.Table.{Entry, table, noRow, searched, rowsOf, rowWith, located, rowIn, rowFor, isAmong}
+use Rattle.edits.specs.Table.{Entry, table, noRow, searched, rowsOf, noFieldRow, located, rowIn, rowFor, isAmong}
 use Rattle.edits.specs.declared.table.FieldRow.{FieldRow}
 
 -- ---- rows without a number
@@ -97,14 +97,15 @@ away-lacks f (e ∷ l) h = let p = passed (eqb f (e .number)) (away f l) h in (p
 -- what the table tells of a number, its rows counted from i: one row has it, or none
 abbrev Told : ℕ → ℕ → ℕ → ℕ → List Entry → FieldRow → Type 0
 Told f near far i l r =
-    ((k : ℕ) × ((k < length l) × (Sole f l k × (r ≡ located (i + k) (getD l k noRow) near far)))) ⊎ (Lacks f l × (r ≡ rowWith 32 1 0 0 0 1 1))
+    ((k : ℕ) × ((k < length l) × (Sole f l k × (r ≡ located (i + k) (getD l k noRow) near far)))) ⊎ (Lacks f l × (r ≡ noFieldRow))
 
 told : (f near far i : ℕ) (l : List Entry) → apart l ≡ true → Told f near far i l (rowIn l i f near far)
 told f near far i [] h = inr (tt, refl)
 told f near far i (e ∷ l) h = by (eqb f (e .number)) refl (told f near far (i + 1) l (both (away (e .number) l) (apart l) h .1))
   where
     lacks : eqb f (e .number) ≡ true → Lacks f l
-    lacks g = subst (λ (n : ℕ). Lacks n l) (sym (eqb-true f (e .number) g)) (away-lacks (e .number) l (both (away (e .number) l) (apart l) h .0))
+    lacks g = subst (λ (n : ℕ). Lacks n l) (sym (eqb-true f (e .number) g))
+        (away-lacks (e .number) l (both (away (e .number) l) (apart l) h .0))
 
     further : (r : FieldRow) → eqb f (e .number) ≡ false → Told f near far (i + 1) l r → Told f near far i (e ∷ l) r
     further r g (inl (k, (a, (b, c)))) =
@@ -120,8 +121,11 @@ told f near far i (e ∷ l) h = by (eqb f (e .number)) refl (told f near far (i 
     by false g go = further (rowIn l (i + 1) f near far) g go
 
 -- ---- what every row keeps
-abbrev pub Fine : Entry → Type 0
-Fine e = (0 < e .width) × ((e .width ≤ 4) × ((0 < e .unit) × (0 < e .many)))
+pub record Fine (e : Entry) : Type 0 where
+  pub some : 0 < e .width
+  pub few : e .width ≤ 4
+  pub counts : 0 < e .unit
+  pub values : 0 < e .many
 
 abbrev fine : Entry → Bool
 fine e = pick (ltb 0 (e .width)) (pick (leb (e .width) 4) (pick (ltb 0 (e .unit)) (ltb 0 (e .many)) false) false) false
@@ -140,7 +144,12 @@ fine-is e h =
     let a = both (ltb 0 (e .width)) _ h in
     let b = both (leb (e .width) 4) _ (a .1) in
     let c = both (ltb 0 (e .unit)) _ (b .1) in
-    (ltb-true 0 (e .width) (a .0), (leb-true (e .width) 4 (b .0), (ltb-true 0 (e .unit) (c .0), ltb-true 0 (e .many) (c .1))))
+    record {
+      some = ltb-true 0 (e .width) (a .0);
+      few = leb-true (e .width) 4 (b .0);
+      counts = ltb-true 0 (e .unit) (c .0);
+      values = ltb-true 0 (e .many) (c .1);
+    }
 
 -- ---- a command's rows: rows 0 and 1, and those from first up to end
 abbrev Of : List Entry → ℕ → ℕ → List Entry
@@ -224,8 +233,10 @@ told-table : (f near far : ℕ) → Told f near far 0 table (rowFor f near far)
 told-table f near far = told f near far 0 table all-apart
 
 pub row-in : (f near far first end : ℕ) → end ≤ 32 → isAmong (rowFor f near far .index) first end ≡ true
-    → (e : Entry) × ((searched (rowsOf first end) f ≡ got e) × ((rowFor f near far ≡ located (rowFor f near far .index) e near far) × Fine e))
+    → (e : Entry) × ((searched (rowsOf first end) f ≡ got e)
+    × ((rowFor f near far ≡ located (rowFor f near far .index) e near far) × Fine e))
 row-in f near far first end h m = in-by f near far first end table (rowFor f near far) all-fine h (told-table f near far) m
 
-pub row-out : (f near far first end : ℕ) → isAmong (rowFor f near far .index) first end ≡ false → searched (rowsOf first end) f ≡ refused 7 0
+pub row-out : (f near far first end : ℕ) → isAmong (rowFor f near far .index) first end ≡ false
+    → searched (rowsOf first end) f ≡ refused 7 0
 row-out f near far first end m = out-by f near far first end table (rowFor f near far) (told-table f near far) m

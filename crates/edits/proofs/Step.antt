@@ -6,16 +6,15 @@ use mathlib.Core.List.{List, [], _∷_, _++_}
 use mathlib.Core.Path.{_≡_, refl, ap, ap₂, sym, subst, _∙_}
 use native.Mathlib.Omega.{arith}
 use lib.ListN.{length, getD}
-use lib.Seq.{sets}
 use lib.Dec.{ltb, leb}
 use borrow.Author.Tests.{ltb-true, ltb-false, leb-true}
 use Rattle.crc.specs.Check.{Bytes}
 use Rattle.codec.specs.Pick.{pick}
-use Rattle.codec.specs.Digits.{sum, numberOf, bytesOf}
+use Rattle.codec.specs.Digits.{sum}
 use Rattle.codec.specs.Sheet.{Field, field, Item, packed, text, got, byte, widths}
 use Rattle.codec.specs.Writing.{writeItems, itemBytes}
 use Rattle.codec.specs.Sound.{soundItem, soundItems, soundFields}
-use Rattle.codec.specs.Edit.{setValue, placeOf, below, replaced, inField}
+use Rattle.codec.specs.Edit.{setValue, placeOf, below, inField}
 use Rattle.codec.proofs.Back.{both, passed}
 use Rattle.codec.proofs.Patch.{patch, ok-length, place-room}
 use Rattle.codec.proofs.Narrow.{narrow}
@@ -30,8 +29,8 @@ use Rattle.edits.specs.Fields.{spot}
 use Rattle.edits.specs.Record.{itemsIn, valuesIn}
 use Rattle.edits.specs.Edit.{fieldAt, withField}
 use Rattle.edits.specs.Table.{skipped, holding}
-use Rattle.edits.specs.Change.{held, changed}
-use Rattle.edits.proofs.With.{Free, items-ok, items-sound, with-field}
+use Rattle.edits.specs.Change.{patched, changed}
+use Rattle.edits.proofs.With.{FieldIn, Free, items-ok, items-sound, with-field}
 use Rattle.edits.proofs.Renewal.{closed, bytes-front, changed-closed}
 
 -- ---- an item that holds numbers is there
@@ -83,75 +82,85 @@ payload-closed c z =
     let d = byte-item (c .«dst_addr») (z .destination) in
     let r = byte-item (c .«src_addr») (z .source) in
     let f = byte-item (familyId (c .payload)) (id-byte (c .payload)) in
-    let o : writeItems (itemsIn c) (valuesIn c) ≡ itemsLaid c = ap (λ (l : List ℕ). l ++ (itemBytes byte (c .«src_addr» ∷ []) ++ (itemBytes byte (familyId (c .payload) ∷ []) ++ s))) d
+    let o : writeItems (itemsIn c) (valuesIn c) ≡ itemsLaid c =
+    ap (λ (l : List ℕ). l ++ (itemBytes byte (c .«src_addr» ∷ []) ++ (itemBytes byte (familyId (c .payload) ∷ []) ++ s))) d
     ∙ ap (λ (l : List ℕ). c .«dst_addr» ∷ (l ++ (itemBytes byte (familyId (c .payload) ∷ []) ++ s))) r
     ∙ ap (λ (l : List ℕ). c .«dst_addr» ∷ c .«src_addr» ∷ (l ++ s)) f in
     sound-laid c z ∙ sym (ap closed o)
 
--- ---- THE step
-module _ (c : DirectCommands) (i j n w b lo hi : ℕ) (fs : List Field) (z : Sound c) (e : getD (itemsIn c) i (text 0 0) ≡ packed w fs) (l : j < length fs)
-    (d : getD fs j (field 0 0 0) ≡ field b lo hi) where
-  -- where the bytes that hold the field begin
+-- ---- THE step: a field that the command has
+module _ {c : DirectCommands} {i j b lo hi : ℕ} (z : Sound c) (x : FieldIn (itemsIn c) i j (field b lo hi)) where
+  -- the bits below it; where the bytes that hold it begin; how many they are
+  abbrev pub lowBits : ℕ
+  lowBits = below (widths (x .all)) j
+
   abbrev pub fieldPlace : ℕ
-  fieldPlace = placeOf (itemsIn c) (valuesIn c) i + skipped w (below (widths fs) j) b
+  fieldPlace = placeOf (itemsIn c) (valuesIn c) i + skipped (x .wide) lowBits b
 
-  there : i < length (itemsIn c)
-  there = packed-there (itemsIn c) i w fs e
+  abbrev pub fieldWidth : ℕ
+  fieldWidth = holding lowBits b
 
-  item-sound : soundItem (packed w fs) ≡ true
-  item-sound = rw e at (sound-at (itemsIn c) i (items-sound c))
+  -- a payload with n put there, and its check renewed
+  abbrev pub changedThere : List ℕ → ℕ → List ℕ
+  changedThere p n = changed p fieldPlace fieldWidth (2 ^ (lowBits % 8)) (2 ^ b) n
 
-  pub in-item : below (widths fs) j + b ≤ 8 * w
+  item-sound : soundItem (packed (x .wide) (x .all)) ≡ true
+  item-sound = rw (x .holds) at (sound-at (itemsIn c) i (items-sound c))
+
+  pub in-item : lowBits + b ≤ 8 * x .wide
   in-item =
-      let s = both (leb (sum (widths fs)) (8 * w)) (soundFields fs) item-sound in
-      let k = leb-true (sum (widths fs)) (8 * w) (s .0) in
-      let m : j < length (widths fs) = rw (widths-length fs) l in
-      let h = rw (width-at fs j b lo hi l d) at (below-room (widths fs) j m) in
+      let fs = x .all in
+      let s = both (leb (sum (widths fs)) (8 * x .wide)) (soundFields fs) item-sound in
+      let k = leb-true (sum (widths fs)) (8 * x .wide) (s .0) in
+      let m : j < length (widths fs) = rw (widths-length fs) (x .within) in
+      let h = rw (width-at fs j b lo hi (x .within) (x .this)) at (below-room (widths fs) j m) in
       omega arith
 
   pub top : hi < 2 ^ b
-  top = range-at fs j b lo hi l d (both (leb (sum (widths fs)) (8 * w)) (soundFields fs) item-sound .1)
+  top = range-at (x .all) j b lo hi (x .within) (x .this)
+      (both (leb (sum (widths (x .all))) (8 * x .wide)) (soundFields (x .all)) item-sound .1)
 
-  pub opening-room : placeOf (itemsIn c) (valuesIn c) i + w ≤ length (writeItems (itemsIn c) (valuesIn c))
-  opening-room = rw e at (place-room (itemsIn c) (valuesIn c) i (ok-length (itemsIn c) (valuesIn c) (items-ok c z)) there)
+  opening-room : placeOf (itemsIn c) (valuesIn c) i + x .wide ≤ length (writeItems (itemsIn c) (valuesIn c))
+  opening-room = rw (x .holds) at (place-room (itemsIn c) (valuesIn c) i (ok-length (itemsIn c) (valuesIn c) (items-ok c z)) (x .inside))
 
   opening-bytes : Bytes (writeItems (itemsIn c) (valuesIn c))
   opening-bytes = bytes-front (writeItems (itemsIn c) (valuesIn c)) _ (subst Bytes (payload-closed c z) (sound-bytes c z))
 
   -- the bytes before the field's, its own and those behind are the item's
-  pub parts : (skipped w (below (widths fs) j) b + (holding (below (widths fs) j) b + below (widths fs) j / 8) ≡ w)
-      × ((8 * (below (widths fs) j / 8) + below (widths fs) j % 8 ≡ below (widths fs) j) × (below (widths fs) j % 8 + b ≤ 8 * holding (below (widths fs) j) b))
+  pub parts : (skipped (x .wide) lowBits b + (fieldWidth + lowBits / 8) ≡ x .wide)
+      × ((8 * (lowBits / 8) + lowBits % 8 ≡ lowBits) × (lowBits % 8 + b ≤ 8 * fieldWidth))
   parts = let h = in-item in (omega arith, (omega arith, omega arith))
 
-  pub field-room : fieldPlace + holding (below (widths fs) j) b ≤ length (writeItems (itemsIn c) (valuesIn c))
+  pub field-room : fieldPlace + fieldWidth ≤ length (writeItems (itemsIn c) (valuesIn c))
   field-room = let r = opening-room in let p = parts .0 in omega arith
 
-  module _ (r : inField (field b lo hi) n ≡ true) where
+  module _ (n : ℕ) (r : inField (field b lo hi) n ≡ true) where
     fits : n < 2 ^ b
     fits = let k = in-field b lo hi n r in let t = top in omega arith
 
     patched-narrow : writeItems (itemsIn c) (setValue (valuesIn c) i j n)
-        ≡ sets (writeItems (itemsIn c) (valuesIn c)) fieldPlace (bytesOf (holding (below (widths fs) j) b)
-        (replaced (2 ^ (below (widths fs) j % 8)) (2 ^ b) (numberOf (held (writeItems (itemsIn c) (valuesIn c)) fieldPlace (holding (below (widths fs) j) b))) n))
+        ≡ patched (writeItems (itemsIn c) (valuesIn c)) fieldPlace fieldWidth (2 ^ (lowBits % 8)) (2 ^ b) n
     patched-narrow =
         let o = writeItems (itemsIn c) (valuesIn c) in
         let at = placeOf (itemsIn c) (valuesIn c) i in
-        let q = below (widths fs) j in
+        let w = x .wide in
+        let fs = x .all in
+        let q = lowBits in
         let p = parts in
-        let m : j < length (widths fs) = rw (widths-length fs) l in
+        let m : j < length (widths fs) = rw (widths-length fs) (x .within) in
         let a : at + (skipped w q b + (holding q b + q / 8)) ≤ length o = rw (p .0) opening-room in
-        let x = patch (itemsIn c) (valuesIn c) i j n w fs (items-sound c) (items-ok c z) there e m in
-        let y = narrow o at (skipped w q b) (holding q b) (q / 8) (q % 8) b n opening-bytes a (p .1 .1) fits in
-        x ∙ rw (width-at fs j b lo hi l d) (rw (p .0, p .1 .0) at y)
+        let y = patch (itemsIn c) (valuesIn c) i j n w fs (items-sound c) (items-ok c z) (x .inside) (x .holds) m in
+        let k = narrow o at (skipped w q b) (holding q b) (q / 8) (q % 8) b n opening-bytes a (p .1 .1) fits in
+        y ∙ rw (width-at fs j b lo hi (x .within) (x .this)) (rw (p .0, p .1 .0) at k)
 
     pub stepped : Free c i → fieldAt c (spot i j) ≡ got (field b lo hi)
-        → payloadOf (withField c (spot i j) n) ≡ changed (payloadOf c) fieldPlace (holding (below (widths fs) j) b) (2 ^ (below (widths fs) j % 8)) (2 ^ b) n
+        → payloadOf (withField c (spot i j) n) ≡ changedThere (payloadOf c) n
     stepped g k =
         let c' = withField c (spot i j) n in
         let v = with-field c i j n (field b lo hi) z g k r in
         let o = writeItems (itemsIn c) (valuesIn c) in
-        payload-closed c' (v .1 .1 .1 .1)
-        ∙ ap₂ (λ (is : List Item) (vs : List (List ℕ)). closed (writeItems is vs)) (v .0) (v .1 .0)
+        payload-closed c' (v .sound)
+        ∙ ap₂ (λ (is : List Item) (vs : List (List ℕ)). closed (writeItems is vs)) (v .items) (v .values)
         ∙ ap closed patched-narrow
-        ∙ sym (changed-closed o fieldPlace (holding (below (widths fs) j) b) (2 ^ (below (widths fs) j % 8)) (2 ^ b) n opening-bytes field-room)
-        ∙ sym (ap (λ (p : List ℕ). changed p fieldPlace (holding (below (widths fs) j) b) (2 ^ (below (widths fs) j % 8)) (2 ^ b) n) (payload-closed c z))
+        ∙ sym (changed-closed o fieldPlace fieldWidth (2 ^ (lowBits % 8)) (2 ^ b) n opening-bytes field-room)
+        ∙ sym (ap (λ (p : List ℕ). changedThere p n) (payload-closed c z))

@@ -14,8 +14,8 @@ use Rattle.codec.specs.declared.refusal.Refusal.{Refusal}
 use Rattle.codec.specs.declared.refusal.Refusal.the-variants.{InvalidPayloadLength, BufferOverflow}
 use Rattle.codec.proofs.Writes.{refusal-some}
 use Rattle.commands.specs.declared.DirectCommands.{DirectCommands}
-use Rattle.edits.specs.Edit.{Edit, edit, setField, openCommand, editCommand, EditIs, numbersOf, bytesAfter, editsFrom, editsIn, stopList, leftBy, ListIs}
-use Rattle.edits.specs.Opened.{Opened, Opens}
+use Rattle.edits.specs.Edit.{Edit, edit, setField, openCommand, bytesLeft, EditIs, numbersOf, bytesAfter, editsFrom, editsIn, stopList, leftBy, ListIs}
+use Rattle.edits.specs.Opened.{Opened, AppliesEach, Opens}
 use Rattle.edits.specs.declared.layout.Layout.{Layout}
 use Rattle.edits.specs.declared.opening.Opening.{Opening}
 use Rattle.edits.specs.declared.opening.Opening.the-variants.{Got, Refused}
@@ -33,7 +33,8 @@ turns-start es count p a =
 
 edits-left : (es : List ℕ) (count i : ℕ) → i < count
     → editsFrom (count - i) (drop (i * 8) es)
-    ≡ edit (numberOf (take 4 (drop (i * 8) es))) (numberOf (take 4 (drop (i * 8 + 4) es))) ∷ editsFrom (count - (i + 1)) (drop ((i + 1) * 8) es)
+    ≡ edit (numberOf (take 4 (drop (i * 8) es))) (numberOf (take 4 (drop (i * 8 + 4) es))) ∷ editsFrom (count - (i + 1))
+    (drop ((i + 1) * 8) es)
 edits-left es count i h =
     let s = drop (i * 8) es in
     let g : count - i ≡ suc (count - (i + 1)) = omega arith in
@@ -43,7 +44,7 @@ edits-left es count i h =
     (drop-drop 8 (i * 8) es ∙ ap (λ (k : ℕ). drop k es) e)
 
 pub turns-next : (es : List ℕ) (count : ℕ) (p₀ a₀ p a p' : List ℕ) (i f n r : ℕ) → i < count → f ≡ numberOf (take 4 (drop (i * 8) es))
-    → n ≡ numberOf (take 4 (drop (i * 8 + 4) es)) → EditIs (editCommand p f n) r p p' → Turns es count p₀ a₀ p a i
+    → n ≡ numberOf (take 4 (drop (i * 8 + 4) es)) → EditIs f n r p p' → Turns es count p₀ a₀ p a i
     → Turns es count p₀ a₀ p' (set a i r) (i + 1)
 turns-next es count p₀ a₀ p a p' i f n r h x y e t =
     let rest = editsFrom (count - (i + 1)) (drop ((i + 1) * 8) es) in
@@ -57,7 +58,7 @@ turns-next es count p₀ a₀ p a p' i f n r h x y e t =
     )
 
 pub turns-end : (es : List ℕ) (count : ℕ) (p₀ a₀ p a : List ℕ) (i : ℕ) → count ≤ i → Turns es count p₀ a₀ p a i
-    → (p ≡ bytesAfter p₀ (editsFrom count es)) × (a ≡ sets a₀ 0 (numbersOf p₀ (editsFrom count es)))
+    → AppliesEach count es p₀ p a₀ a
 turns-end es count p₀ a₀ p a i h t =
     let g : count - i ≡ 0 = omega arith in
     let s = drop (i * 8) es in
@@ -72,10 +73,11 @@ refused-is p o r e h = subst (λ (x : Opening). Opens p x) e h
 
 -- ---- a payload that was refused: so is each edit, with that number, and no byte changes
 module _ (p : List ℕ) (r : Refusal) (h : numberIn (openCommand p) ≡ refusalNumber r) where
-  pub edit-refused : (f n : ℕ) → EditIs (editCommand p f n) (refusalNumber r) p p
+  pub edit-refused : (f n : ℕ) → EditIs f n (refusalNumber r) p p
   edit-refused f n = by (openCommand p) h
     where
-      by : (a : Answer DirectCommands) → numberIn a ≡ refusalNumber r → EditIs (andThen a (λ c. setField c f n)) (refusalNumber r) p p
+      by : (a : Answer DirectCommands) → numberIn a ≡ refusalNumber r
+          → (refusalNumber r ≡ numberIn (andThen a (λ c. setField c f n))) × (p ≡ bytesLeft p (andThen a (λ c. setField c f n)))
       by (got c) e = absurd (omega (arith, e, refusal-some r))
       by (refused k l) e = (sym e, refl)
 
@@ -107,16 +109,20 @@ pub list-short : (es p a : List ℕ) → length es % 8 ≡ 0 → length a < leng
 list-short es p a h l = list-stopped es p a BufferOverflow (rw (eq-eqb (length es % 8) 0 h, lt-ltb (length a) (length es / 8) l))
 
 pub list-done : (es p p' a a' : List ℕ) → length es % 8 ≡ 0 → length es / 8 ≤ length a
-    → (p' ≡ bytesAfter p (editsIn es)) × (a' ≡ sets a 0 (numbersOf p (editsIn es))) → ListIs es 0 p p' a a'
+    → AppliesEach (length es / 8) es p p' a a' → ListIs es 0 p p' a a'
 list-done es p p' a a' h l d =
     let e : stopList (length es) (length a) ≡ 0 = rw (eq-eqb (length es % 8) 0 h, le-ltb (length a) (length es / 8) l) in (
       sym e,
       (d .0 ∙ sym (ap (λ (k : ℕ). leftBy k p (editsIn es)) e), d .1 ∙ sym (ap (λ (k : ℕ). leaves k (numbersOf p (editsIn es)) a) e)),
     )
 
-pub list-refused : (es p a a' : List ℕ) (r : Refusal) (n : ℕ) → length es % 8 ≡ 0 → length es / 8 ≤ length a → numberIn (openCommand p) ≡ refusalNumber r
+pub list-refused : (es p a a' : List ℕ) (r : Refusal) (n : ℕ) → length es % 8 ≡ 0 → length es / 8 ≤ length a
+    → numberIn (openCommand p) ≡ refusalNumber r
     → n ≡ refusalNumber r → a' ≡ sets a 0 (replicate (length es / 8) n) → ListIs es 0 p p a a'
 list-refused es p a a' r n h l o e d =
     let t = all-refused p r o (editsIn es) in
-    list-done es p p a a' h l
-    (sym (t .1), d ∙ sym (ap (λ (v : List ℕ). sets a 0 v) (t .0 ∙ ap₂ (λ (k m : ℕ). replicate k m) (edits-count (length es / 8) es) (sym e))))
+    list-done es p p a a' h l (
+      sym (t .1),
+      d ∙ sym (ap (λ (v : List ℕ). sets a 0 v)
+          (t .0 ∙ ap₂ (λ (k m : ℕ). replicate k m) (edits-count (length es / 8) es) (sym e))),
+    )

@@ -92,7 +92,8 @@ DemandedOf c p (done f n r q ∷ ds) =
 -- of a list of edits, by the definition of one
 abbrev pub doneFrom : List ℕ → List Edit → List Done
 doneFrom p [] = []
-doneFrom p (edit f n ∷ es) = done f n (numberIn (editCommand p f n)) (bytesLeft p (editCommand p f n)) ∷ doneFrom (bytesLeft p (editCommand p f n)) es
+doneFrom p (edit f n ∷ es) =
+    done f n (numberIn (editCommand p f n)) (bytesLeft p (editCommand p f n)) ∷ doneFrom (bytesLeft p (editCommand p f n)) es
 
 abbrev pub Demanded : DirectCommands → List ℕ → List Edit → Type 0
 Demanded c p es = DemandedOf c p (doneFrom p es)

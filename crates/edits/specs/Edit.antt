@@ -59,8 +59,8 @@ abbrev pub bytesLeft : List ℕ → Answer DirectCommands → List ℕ
 bytesLeft p (got c) = payloadOf c
 bytesLeft p (refused n l) = p
 
-abbrev pub EditIs : Answer DirectCommands → ℕ → List ℕ → List ℕ → Type 0
-EditIs a r s s' = (r ≡ numberIn a) × (s' ≡ bytesLeft s a)
+abbrev pub EditIs : ℕ → ℕ → ℕ → List ℕ → List ℕ → Type 0
+EditIs f n r p p' = (r ≡ numberIn (editCommand p f n)) × (p' ≡ bytesLeft p (editCommand p f n))
 
 -- ---- A LIST: each edit on the bytes that those before it left
 abbrev pub numbersOf : List ℕ → List Edit → List ℕ

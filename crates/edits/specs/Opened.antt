@@ -1,10 +1,11 @@
 -- A payload as written whose layout is known, and edits applied to it. For the contracts of private functions: nobody has to believe this
 -- file. Assumes nothing.
-use Prim.Native.Nat.{ℕ, _≤_}
+use Prim.Native.Nat.{ℕ, _*_, _≤_}
 use mathlib.Core.Bool.{Bool, true, false}
 use mathlib.Core.Path.{_≡_}
 use mathlib.Core.List.{List}
 use lib.ListN.{length, getD}
+use lib.Seq.{sets}
 use lib.Dec.{ltb, eqb}
 use Rattle.codec.specs.Pick.{pick}
 use Rattle.codec.specs.Sheet.{Item, got}
@@ -21,26 +22,44 @@ use Rattle.commands.specs.Writing.{payloadOf}
 use Rattle.commands.specs.declared.DirectCommands.{DirectCommands}
 use Rattle.commands.proofs.Promised.{Sound}
 use Rattle.edits.specs.Record.{subOf, itemsIn, valuesIn}
-use Rattle.edits.specs.Edit.{openCommand}
+use Rattle.edits.specs.Edit.{Edit, openCommand, EditIs, numbersOf, bytesAfter, editsFrom}
 use Rattle.edits.specs.Table.{nearItem, farItem, sheetRow, straight, searched, rowsOf}
+use Rattle.edits.specs.Layout.{vtxLayout}
 use Rattle.edits.specs.declared.layout.Layout.{Layout}
 use Rattle.edits.specs.declared.opening.Opening.{Opening}
 use Rattle.edits.specs.declared.opening.Opening.the-variants.{Got, Refused}
 
 -- a layout serves a command of this family, sub-command, items and values: the rows that it tells are those that 01's list gives, for
 -- every field number; and so are the places
-abbrev pub ServesAs : ℕ → ℕ → List Item → List (List ℕ) → Layout → Type 0
-ServesAs id sub is vs s =
-    ((f : ℕ) → sheetRow id sub is f ≡ searched (rowsOf (s .first) (s .end)) f)
-    × (((f : ℕ) → straight id sub is f ≡ true)
-    × ((s .end ≤ 32) × ((s .near ≡ placeOf is vs (nearItem id sub)) × (s .far ≡ placeOf is vs (farItem is)))))
+pub record ServesAs (id sub : ℕ) (is : List Item) (vs : List (List ℕ)) (s : Layout) : Type 0 where
+  pub rows : (f : ℕ) → sheetRow id sub is f ≡ searched (rowsOf (s .first) (s .end)) f
+  pub direct : (f : ℕ) → straight id sub is f ≡ true
+  pub within : s .end ≤ 32
+  pub near : s .near ≡ placeOf is vs (nearItem id sub)
+  pub far : s .far ≡ placeOf is vs (farItem is)
 
 abbrev pub Serves : DirectCommands → Layout → Type 0
 Serves c s = ServesAs (familyId (c .payload)) (subOf (c .payload)) (itemsIn c) (valuesIn c) s
 
 -- p is what the writer makes of a command that the layout serves
-abbrev pub Opened : List ℕ → Layout → Type 0
-Opened p s = (c : DirectCommands) × (Sound c × ((p ≡ payloadOf c) × Serves c s))
+pub record Opened (p : List ℕ) (s : Layout) : Type 0 where
+  pub command : DirectCommands
+  pub sound : Sound command
+  pub written : p ≡ payloadOf command
+  pub served : Serves command s
+
+-- an edit of it: answered and carried out as defined, and the payload is open still, by the same layout
+abbrev pub Applies : Layout → ℕ → ℕ → ℕ → List ℕ → List ℕ → Type 0
+Applies s f n r p p' = EditIs f n r p p' × Opened p' s
+
+-- the first `count` edits of a list: they are there, with an answer byte each; and they are carried out in turn
+abbrev pub HasRoom : ℕ → List ℕ → List ℕ → Type 0
+HasRoom count es a = (count * 8 ≤ length es) × (count ≤ length a)
+
+abbrev pub AppliesEach : ℕ → List ℕ → List ℕ → List ℕ → List ℕ → List ℕ → Type 0
+AppliesEach count es p p' a a' =
+    let edits : List Edit = editsFrom count es in
+    (p' ≡ bytesAfter p edits) × (a' ≡ sets a 0 (numbersOf p edits))
 
 -- the one bit that reading ignores: bit 7 of a pit byte
 abbrev pub vtxPit : VtxCommand → Bool
@@ -66,7 +85,10 @@ abbrev pub fitting : Layout → ℕ → Opening
 fitting s n = pick (eqb n (s .size)) (Got s) (Refused NotAsWritten)
 
 abbrev pub unset : VtxCommand → List ℕ → Opening → Opening
-unset c p o = pick (vtxPit c) (pick (ltb 4 (length p)) (pick (ltb 127 (getD p 4 0)) (Refused NotAsWritten) o) o) o
+unset c p o = pick (vtxPit c) (pick (ltb 4 (length p)) (pick (ltb 0x7F (getD p 4 0)) (Refused NotAsWritten) o) o) o
+
+abbrev pub vtxOpening : VtxCommand → List ℕ → Opening
+vtxOpening c p = unset c p (fitting (vtxLayout c) (length p))
 
 abbrev pub Opens : List ℕ → Opening → Type 0
 Opens p (Got s) = Opened p s

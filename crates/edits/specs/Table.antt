@@ -1,6 +1,6 @@
 -- The rows of the table, worked out of 01's list and the sheets. For the contracts of private functions: nobody has to believe
 -- this file. Assumes nothing.
-use Prim.Native.Nat.{ℕ, _+_, _-_, _/_, _%_, _^_}
+use Prim.Native.Nat.{ℕ, _+_, _-_, _/_, _%_, _^_, _≤_}
 use mathlib.Core.Bool.{Bool, true, false}
 use mathlib.Core.List.{List, [], _∷_, _++_, map}
 use lib.ListN.{take, drop, getD}
@@ -16,6 +16,7 @@ use Rattle.families.specs.Popup.{popupItems}
 use Rattle.families.specs.declared.screen.ScreenAdditionalData.the-variants.{Selection}
 use Rattle.edits.specs.Fields.{Spot, spot, of, Listed, everywhere, listed, fields, spotIn}
 use Rattle.edits.specs.Edit.{fieldOf}
+use Rattle.edits.specs.declared.table.Field.{Field as CodeField}
 use Rattle.edits.specs.declared.table.FieldRow.{FieldRow}
 
 -- what a row's place counts from: the destination; the only or start colour or a popup's timeout; a selection's value
@@ -136,9 +137,21 @@ listedRow (listed k id [] j) = noRow
 listedRow (listed k id (of sub i ∷ at) j) =
     valueIn noRow (placedRow k (originOf k) (sheetItems id sub) (anchor (originOf k) id sub (sheetItems id sub)) (spot i j))
 
+abbrev pub numberListed : Listed → ℕ
+numberListed (everywhere k i) = k
+numberListed (listed k id at j) = k
+
 -- 41 before 40: the rows that a command has stand together
+abbrev pub baudFirst : List Listed → List Listed
+baudFirst [] = []
+baudFirst (x ∷ []) = x ∷ []
+baudFirst (x ∷ y ∷ l) = pick (eqb (numberListed x) 40) (y ∷ x ∷ l) (x ∷ baudFirst (y ∷ l))
+
 abbrev pub table : List Entry
-table = map listedRow (take 15 fields ++ (take 1 (drop 16 fields) ++ (take 1 (drop 15 fields) ++ drop 17 fields)))
+table = map listedRow (baudFirst fields)
+
+abbrev pub rowNumbers : List Entry → List ℕ
+rowNumbers rs = map (λ (r : Entry). r .number) rs
 
 -- ---- A FIELD'S ROW among those of a command: rows 0 and 1, and those from first up to end
 abbrev pub searched : List Entry → ℕ → Answer Entry
@@ -164,9 +177,12 @@ rowWith index width low high place unit many =
 abbrev pub located : ℕ → Entry → ℕ → ℕ → FieldRow
 located i e near far = rowWith i (e .width) (e .low) (e .high) (originAt (e .origin) near far + e .place) (e .unit) (e .many)
 
--- 32: none
+-- what a number that has no row is given: the index behind the last
+abbrev pub noFieldRow : FieldRow
+noFieldRow = rowWith 32 1 0 0 0 1 1
+
 abbrev pub rowIn : List Entry → ℕ → ℕ → ℕ → ℕ → FieldRow
-rowIn [] i f near far = rowWith 32 1 0 0 0 1 1
+rowIn [] i f near far = noFieldRow
 rowIn (e ∷ es) i f near far = pick (eqb f (e .number)) (located i e near far) (rowIn es (i + 1) f near far)
 
 abbrev pub rowFor : ℕ → ℕ → ℕ → FieldRow
@@ -182,11 +198,22 @@ indexFor f = indexIn table 0 f
 
 -- the row of an index
 abbrev pub rowAt : ℕ → ℕ → ℕ → FieldRow
-rowAt i near far = pick (ltb i 32) (located i (getD table i noRow) near far) (rowWith 32 1 0 0 0 1 1)
+rowAt i near far = pick (ltb i 32) (located i (getD table i noRow) near far) noFieldRow
 
 -- an origin as the code's table has it: 0, 1, 2
 abbrev pub originFrom : ℕ → ℕ → ℕ → ℕ
 originFrom o near far = pick (eqb o 0) 0 (pick (eqb o 1) near far)
+
+-- a line of the code's table: number, width, low, high, origin, place, unit, many. Its place in a command, and the row
+abbrev pub placeIn : CodeField → ℕ → ℕ → ℕ
+placeIn line near far = originFrom (line .4) near far + line .5
+
+abbrev pub rowFrom : ℕ → CodeField → ℕ → ℕ → FieldRow
+rowFrom index line near far = rowWith index (line .1) (line .2) (line .3) (placeIn line near far) (line .6) (line .7)
+
+-- "The largest length is 60."
+abbrev pub InPayload : ℕ → Type 0
+InPayload at = at ≤ 60
 
 -- whether a command has the row of an index
 abbrev pub isAmong : ℕ → ℕ → ℕ → Bool

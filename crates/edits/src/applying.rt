@@ -1,23 +1,28 @@
 // Edits applied to a payload that is open: its layout is known, and nothing is read again.
 ghost use mathlib.Core.Path.{_≡_};
-ghost use Prim.Native.Nat.{_+_, _*_, _≤_};
+ghost use Prim.Native.Nat.{_+_, _≤_};
 ghost use lib.ListN.{length, take, drop, replicate};
 ghost use lib.Seq.{sets};
 ghost use Rattle.codec.specs.Digits.{numberOf};
-ghost use Rattle.edits.specs.Edit.{editCommand, EditIs, numbersOf, bytesAfter, editsFrom};
-ghost use Rattle.edits.specs.Opened.{Opened};
+ghost use Rattle.edits.specs.Opened.{Opened, Applies, HasRoom, AppliesEach};
+use crate::EDIT_SIZE;
+use crate::change;
 use crate::layout::Layout;
+use crate::table;
 use codec::reader::NumberRead;
 use codec::reader::Width;
 use codec::refusal::Refusal;
 
-// The number of one edit.
+// In an edit's bytes the number stands behind the field.
+const NUMBER_AT: usize = 4;
+
+// One edit, and its number.
 pub(crate) fn apply(payload: &mut [u8], layout: Layout, field: u32, number: u32) -> u8
     requires { ⌜ Opened (now payload) layout ⌝ }
-    ensures { λ r. ⌜ EditIs (editCommand (now (payload .entry)) field number) r (now (payload .entry)) (now (payload .exit)) × Opened (now (payload .exit)) layout ⌝ }
+    ensures { λ r. ⌜ Applies layout field number r (now (payload .entry)) (now (payload .exit)) ⌝ }
 {
-    let row = crate::table::row(field, layout.near, layout.far);
-    if !crate::table::among(row.index, layout.first, layout.end) {
+    let row = table::row(field, layout.near, layout.far);
+    if !table::among(row.index, layout.first, layout.end) {
         return codec::refusal::number(Refusal::NoSuchField);
     }
     if number < row.low {
@@ -26,17 +31,17 @@ pub(crate) fn apply(payload: &mut [u8], layout: Layout, field: u32, number: u32)
     if row.high < number {
         return codec::refusal::number(Refusal::NumberOutsideRange);
     }
-    crate::change::change(payload, row.place, row.width, row.unit, row.many, number);
+    change::change(payload, row.place, row.width, row.unit, row.many, number);
     0
 }
 
-// Four bytes, big-endian.
-fn long_at(s: &[u8], at: usize) -> u32
-    requires { ⌜ at + 4 ≤ length (now s) ⌝ }
-    ensures { λ r. ⌜ r ≡ numberOf (take 4 (drop at (now (s .entry)))) ⌝ }
+// The long at a place where there is one. Not by `read_long`: the compiler then no longer loads the four bytes at once.
+fn long_at(bytes: &[u8], at: usize) -> u32
+    requires { ⌜ at + 4 ≤ length (now bytes) ⌝ }
+    ensures { λ r. ⌜ r ≡ numberOf (take 4 (drop at (now (bytes .entry)))) ⌝ }
 {
-    match codec::reader::read_number(s, at, Width::Four, 0, 4294967295) {
-        NumberRead::Got(n) => n,
+    match codec::reader::read_number(bytes, at, Width::Four, 0, u32::MAX) {
+        NumberRead::Got(number) => number,
         NumberRead::Refused(_) => 0,
     }
 }
@@ -49,15 +54,16 @@ pub(crate) fn apply_each(
     answers: &mut [u8],
     count: usize,
 )
-    requires { ⌜ Opened (now payload) layout × ((count * 8 ≤ length (now edits)) × (count ≤ length (now answers))) ⌝ }
-    ensures { λ r. ⌜ (now (payload .exit) ≡ bytesAfter (now (payload .entry)) (editsFrom count (now (edits .entry)))) × (now (answers .exit) ≡ sets (now (answers .entry)) 0 (numbersOf (now (payload .entry)) (editsFrom count (now (edits .entry))))) ⌝ }
+    requires { ⌜ Opened (now payload) layout × HasRoom count (now edits) (now answers) ⌝ }
+    ensures { λ r. ⌜ AppliesEach count (now (edits .entry)) (now (payload .entry)) (now (payload .exit))
+        (now (answers .entry)) (now (answers .exit)) ⌝ }
 {
-    let mut i: usize = 0;
-    while i < count {
-        let field = long_at(edits, i * 8);
-        let number = long_at(edits, i * 8 + 4);
-        answers[i] = apply(payload, layout, field, number);
-        i += 1;
+    let mut done: usize = 0;
+    while done < count {
+        let field = long_at(edits, done * EDIT_SIZE);
+        let number = long_at(edits, done * EDIT_SIZE + NUMBER_AT);
+        answers[done] = apply(payload, layout, field, number);
+        done += 1;
     }
 }
 
@@ -66,9 +72,9 @@ pub(crate) fn answer_all(answers: &mut [u8], count: usize, number: u8)
     requires { ⌜ count ≤ length (now answers) ⌝ }
     ensures { λ r. ⌜ now (answers .exit) ≡ sets (now (answers .entry)) 0 (replicate count number) ⌝ }
 {
-    let mut k: usize = 0;
-    while k < count {
-        answers[k] = number;
-        k += 1;
+    let mut answered: usize = 0;
+    while answered < count {
+        answers[answered] = number;
+        answered += 1;
     }
 }

@@ -1,9 +1,8 @@
 // A payload read, and found as written.
 ghost use mathlib.Core.Path.{_≡_};
-ghost use Prim.Native.Nat.{_+_, _≤_};
-ghost use lib.ListN.{length};
-ghost use Rattle.edits.specs.Layout.{vtxLayout};
-ghost use Rattle.edits.specs.Opened.{fitting, unset, Opens, OpensRead};
+ghost use Rattle.edits.specs.Layout.{Stores};
+ghost use Rattle.edits.specs.Opened.{fitting, vtxPit, vtxOpening, Opens, OpensRead};
+use crate::layout;
 use crate::layout::Layout;
 use codec::refusal::Refusal;
 use commands::kind::KindRead;
@@ -15,21 +14,27 @@ pub(crate) enum Opening {
     Refused(Refusal),
 }
 
+// Where a pit byte stands, and its bits without bit 7.
+const PIT_BYTE: usize = layout::FIRST_ITEM;
+
+const PIT_BITS: u8 = 0x7F;
+
 // Reading ignores bytes after the last item.
-fn fits(layout: Layout, n: usize) -> Opening
-    ensures { λ r. ⌜ r ≡ fitting layout n ⌝ }
+fn fits(layout: Layout, len: usize) -> Opening
+    ensures { λ r. ⌜ r ≡ fitting layout len ⌝ }
 {
-    if n == layout.size {
+    if len == layout.size {
         Opening::Got(layout)
     } else {
         Opening::Refused(Refusal::NotAsWritten)
     }
 }
 
-fn is_pit(c: VtxCommand) -> bool
-    ensures { λ r. ⌜ r ≡ Rattle.edits.specs.Opened.vtxPit c ⌝ }
+// Whether it holds a pit byte.
+fn is_pit(command: VtxCommand) -> bool
+    ensures { λ r. ⌜ r ≡ vtxPit command ⌝ }
 {
-    match c {
+    match command {
         VtxCommand::SetFrequency(_) => false,
         VtxCommand::EnablePitModeOnPowerUp {
             pit_mode,
@@ -43,42 +48,47 @@ fn is_pit(c: VtxCommand) -> bool
 }
 
 // It ignores bit 7 of a pit byte too.
-fn judge_vtx(c: VtxCommand, s: &[u8]) -> Opening
-    ensures { λ r. ⌜ r ≡ unset c (now (s .entry)) (fitting (vtxLayout c) (length (now (s .entry)))) ⌝ }
+fn judge_vtx(command: VtxCommand, payload: &[u8]) -> Opening
+    ensures { λ r. ⌜ r ≡ vtxOpening command (now (payload .entry)) ⌝ }
 {
-    if is_pit(c) {
-        if 4 < s.len() {
-            if 127 < s[4] {
+    if is_pit(command) {
+        if PIT_BYTE < payload.len() {
+            if PIT_BITS < payload[PIT_BYTE] {
                 return Opening::Refused(Refusal::NotAsWritten);
             }
         }
     }
-    fits(crate::layout::of_vtx(c), s.len())
+    fits(layout::of_vtx(command), payload.len())
 }
 
-// What was read of s is s as written. Nothing is written to tell.
-fn judge(payload: CommandPayload, n: usize, s: &[u8]) -> Opening
-    requires { ⌜ n + 4 ≤ length (now s) ⌝ }
-    ensures { λ r. ⌜ OpensRead payload n (now (s .entry)) r ⌝ }
+// Whether the payload is what the writer makes of the command that was read of it, with so many stored bytes. Nothing is written to
+// tell.
+fn judge(command: CommandPayload, stored: usize, payload: &[u8]) -> Opening
+    requires { ⌜ Stores stored (now payload) ⌝ }
+    ensures { λ r. ⌜ OpensRead command stored (now (payload .entry)) r ⌝ }
 {
-    match payload {
-        CommandPayload::Fc(_) => fits(crate::layout::alone(), s.len()),
-        CommandPayload::Osd(_) => fits(crate::layout::plain(6, 2, 3), s.len()),
-        CommandPayload::Vtx(c) => judge_vtx(c, s),
-        CommandPayload::Led(c) => fits(crate::layout::of_led(c), s.len()),
-        CommandPayload::General(c) => fits(crate::layout::of_general(c), s.len()),
-        CommandPayload::Crossfire(c) => fits(crate::layout::of_crossfire(c), s.len()),
-        CommandPayload::FlowControl(c) => fits(crate::layout::of_flow(c), s.len()),
-        CommandPayload::Screen(c) => fits(crate::layout::of_screen(c, n, s), s.len()),
-        CommandPayload::Ack(_) => fits(crate::layout::plain(n + 8, 29, 32), s.len()),
+    match command {
+        CommandPayload::Fc(_) => fits(layout::alone(), payload.len()),
+        CommandPayload::Osd(_) => fits(layout::of_osd(), payload.len()),
+        CommandPayload::Vtx(c) => judge_vtx(c, payload),
+        CommandPayload::Led(c) => fits(layout::of_led(c), payload.len()),
+        CommandPayload::General(c) => fits(layout::of_general(c), payload.len()),
+        CommandPayload::Crossfire(c) => fits(layout::of_crossfire(c), payload.len()),
+        CommandPayload::FlowControl(c) => fits(layout::of_flow(c), payload.len()),
+        CommandPayload::Screen(c) => fits(layout::of_screen(c, stored, payload), payload.len()),
+        CommandPayload::Ack(_) => fits(layout::of_ack(stored), payload.len()),
     }
 }
 
-pub(crate) fn open(s: &[u8]) -> Opening
-    ensures { λ r. ⌜ Opens (now (s .entry)) r ⌝ }
+// The payload read once: its layout, or the refusal that answers every edit of it.
+pub(crate) fn open(payload: &[u8]) -> Opening
+    ensures { λ r. ⌜ Opens (now (payload .entry)) r ⌝ }
 {
-    match commands::kind::read(s) {
-        KindRead::Got { payload, len } => judge(payload, len, s),
+    match commands::kind::read(payload) {
+        KindRead::Got {
+            payload: command,
+            len: stored,
+        } => judge(command, stored, payload),
         KindRead::Refused(r) => Opening::Refused(r),
     }
 }

@@ -192,7 +192,8 @@ loose-range s vs h =
     let b = items-got byte (byte ∷ text 0 52 ∷ []) s 1 (a .1 .0) (a .1 .1 .1 .1) in
     let c = items-got byte (text 0 52 ∷ []) s 2 (b .1 .0) (b .1 .1 .1 .1) in
     let d = items-got (text 0 52) [] s 3 (c .1 .0) (c .1 .1 .1 .1) in
-    fourth (a .0) (b .0) (c .0) (d .0) vs (a .1 .0) (b .1 .0) (c .1 .0) (d .1 .0) (a .1 .1 .0) (b .1 .1 .0) (c .1 .1 .0) (d .1 .1 .0) (text-range 0 52 (drop 3 s) (d .0) (d .1 .1 .1 .0))
+    fourth (a .0) (b .0) (c .0) (d .0) vs (a .1 .0) (b .1 .0) (c .1 .0) (d .1 .0) (a .1 .1 .0) (b .1 .1 .0) (c .1 .1 .0)
+    (d .1 .1 .0) (text-range 0 52 (drop 3 s) (d .0) (d .1 .1 .1 .0))
   where
     fourth : (a b c d : List ℕ) (v w x y z : List (List ℕ)) → v ≡ a ∷ w → w ≡ b ∷ x → x ≡ c ∷ y → y ≡ d ∷ z → (length d ≤ 52) × (nonzero d ≡ true)
         → (length (informationIn v) ≤ 52) × (nonzero (informationIn v) ≡ true)

@@ -38,7 +38,9 @@ abbrev pub Fixed : List (List ℕ) → Type 0
 Fixed vs = ackSays (ackOf vs) (getD vs 3 []) ≡ vs
 
 four : (a b c d : Answer (List ℕ)) (vs : List (List ℕ)) → One a → One b → One c
-    → andThen a (λ v. andThen (andThen b (λ w. andThen (andThen c (λ x. andThen (andThen d (λ y. got (y ∷ []))) (λ ws. got (x ∷ ws)))) (λ ws. got (w ∷ ws)))) (λ ws. got (v ∷ ws))) ≡ got vs
+    → andThen a (λ v. andThen
+    (andThen b (λ w. andThen (andThen c (λ x. andThen (andThen d (λ y. got (y ∷ []))) (λ ws. got (x ∷ ws))))
+    (λ ws. got (w ∷ ws)))) (λ ws. got (v ∷ ws))) ≡ got vs
     → Fixed vs
 four (got v) (got w) (got x) (got y) vs p q r h =
     let e : vs ≡ v ∷ w ∷ x ∷ y ∷ [] = cc in
@@ -59,7 +61,9 @@ kept false ws vs h = let z : _≡_ {A = ℕ} 0 1 = cc in absurd (omega arith)
 pub ack-fixed : (s : List ℕ) (vs : List (List ℕ)) → readAck s ≡ got vs → Fixed vs
 ack-fixed s vs h =
     let p = and-got (readItems ackLoose s 0) (λ (ws : List (List ℕ)). pick (actionOk ws) (got ws) (refused 2 0)) vs h in
-    let f = four (readItem byte (drop 0 s)) (readItem byte (drop 1 s)) (readItem byte (drop 2 s)) (readItem (text 0 52) (drop 3 s)) (p .0) (byte-one (drop 0 s)) (byte-one (drop 1 s)) (byte-one (drop 2 s)) (p .1 .0) in
+    let f = four (readItem byte (drop 0 s)) (readItem byte (drop 1 s)) (readItem byte (drop 2 s))
+    (readItem (text 0 52) (drop 3 s)) (p .0) (byte-one (drop 0 s)) (byte-one (drop 1 s)) (byte-one (drop 2 s))
+    (p .1 .0) in
     rw (kept (actionOk (p .0)) (p .0) vs (p .1 .1)) at f
 
 pub ack-some : (s : List ℕ) → Some (readAck s)
@@ -79,7 +83,8 @@ more-some s k h b = some-then (readItems (moreItems k) s b) _ (items-some (moreI
 
 pub popup-some : (s : List ℕ) (at : ℕ) → Some (readPopup s at)
 popup-some s at =
-    some-then (readItems headItems s at) _ (items-some headItems s at) (λ h. more-some s (additionalOf (drop (endOf headItems h at) s)) h (endOf headItems h at))
+    some-then (readItems headItems s at) _ (items-some headItems s at)
+    (λ h. more-some s (additionalOf (drop (endOf headItems h at) s)) h (endOf headItems h at))
 
 fitted-some : (q : Popup) → Some (fitted q)
 fitted-some q = some-pick (leb (length (writePopup q)) 55) _ _ (some-got q) (some-refused 1 (omega arith))

@@ -27,13 +27,16 @@ judged-by : (v : List ℕ) (o : Bool) → okItem colour v ≡ o → pick (okItem
 judged-by v o e = rw e
 
 -- its three values, and whether they are in their ranges
-pub colour-judged : (r : NumberRead) (n : ℕ) (v : List ℕ) (o : Bool) → r ≡ Got n → v ≡ split (9 ∷ 7 ∷ 8 ∷ []) n → o ≡ okItem colour v → colorTold r ≡ pick o (got v) (refused 2 0)
+pub colour-judged : (r : NumberRead) (n : ℕ) (v : List ℕ) (o : Bool) → r ≡ Got n → v ≡ split (9 ∷ 7 ∷ 8 ∷ []) n
+    → o ≡ okItem colour v → colorTold r ≡ pick o (got v) (refused 2 0)
 colour-judged r n v o e f g = ap colorTold e ∙ ap (λ (x : List ℕ). pick (okItem colour x) (got x) (refused 2 0)) (sym f) ∙ judged-by v o (sym g)
 
-colour-behind : (r : NumberRead) (s s' : List ℕ) → Takes (number 3 0 16777215) (toldNumber r) s s' → (v : List ℕ) → colorTold r ≡ got v → s' ≡ drop (sizeOf colour v) s
+colour-behind : (r : NumberRead) (s s' : List ℕ) → Takes (number 3 0 16777215) (toldNumber r) s s' → (v : List ℕ)
+    → colorTold r ≡ got v → s' ≡ drop (sizeOf colour v) s
 colour-behind (Got n) s s' t v e = t .1
 colour-behind (Refused k) s s' t v e = let z : _≡_ {A = ℕ} 0 1 = cc in absurd (omega arith)
 
 -- the three bytes of a colour taken: its item is
-pub colour-next : (r : NumberRead) {is : List Item} {more : List (Answer (List ℕ))} {s s' : List ℕ} → Takes (number 3 0 16777215) (toldNumber r) s s' → Taken is more s' → Taken (colour ∷ is) (colorTold r ∷ more) s
+pub colour-next : (r : NumberRead) {is : List Item} {more : List (Answer (List ℕ))} {s s' : List ℕ}
+    → Takes (number 3 0 16777215) (toldNumber r) s s' → Taken is more s' → Taken (colour ∷ is) (colorTold r ∷ more) s
 colour-next r {is} {more} {s} {s'} t u = after (colour-told r s (t .0)) (colour-behind r s s' t) u

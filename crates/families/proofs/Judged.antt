@@ -33,7 +33,8 @@ use Rattle.families.proofs.PopupLaws.{groups-write}
 use Rattle.families.proofs.Made.{construct-by}
 
 -- a text that is made, in the sheet's terms
-pub text-ok : (t : CommandString) → length (t .bytes) ≡ 51 → madeText t ≡ true → (okItem textItem (bytesIn t) ≡ true) × ((length (bytesIn t) ≡ t .len) × (t .len ≤ 51))
+pub text-ok : (t : CommandString) → length (t .bytes) ≡ 51 → madeText t ≡ true
+    → (okItem textItem (bytesIn t) ≡ true) × ((length (bytesIn t) ≡ t .len) × (t .len ≤ 51))
 text-ok t l h =
     let m = both (leb (t .len) 51) (pick (nonzero (bytesIn t)) (zeros (drop (t .len) (t .bytes))) false) h in
     let n = both (nonzero (bytesIn t)) (zeros (drop (t .len) (t .bytes))) (m .1) in
@@ -50,9 +51,13 @@ no-label (b ∷ v) h = absurd (omega arith)
 
 -- the texts that are present, and their lengths
 made-parts : (f : ScreenPopupFields) → madeTexts f ≡ true
-    → (madeText (f .header) ≡ true) × ((madeText (f .info) ≡ true) × ((madeMore (f .«additional_data») f ≡ true) × (madeValues (f .«has_possible_values») f ≡ true)))
+    → (madeText (f .header) ≡ true)
+    × ((madeText (f .info) ≡ true)
+    × ((madeMore (f .«additional_data») f ≡ true) × (madeValues (f .«has_possible_values») f ≡ true)))
 made-parts f h =
-    let a = both (madeText (f .header)) (pick (madeText (f .info)) (pick (madeMore (f .«additional_data») f) (madeValues (f .«has_possible_values») f) false) false) h in
+    let a = both (madeText (f .header))
+    (pick (madeText (f .info)) (pick (madeMore (f .«additional_data») f) (madeValues (f .«has_possible_values») f)
+    false) false) h in
     let b = both (madeText (f .info)) (pick (madeMore (f .«additional_data») f) (madeValues (f .«has_possible_values») f) false) (a .1) in
     let c = both (madeMore (f .«additional_data») f) (madeValues (f .«has_possible_values») f) (b .1) in
     (a .0, (b .0, (c .0, c .1)))
@@ -69,7 +74,8 @@ selection-short f h e = by (f .«additional_data») e (made-parts f h .1 .1 .0)
     by : (k : ScreenAdditionalData) → k ≡ Selection → madeMore k f ≡ true → (f .«selection_text» .len ≤ 51) × (f .unit .len ≤ 51)
     by Absent e m = let z : _≡_ {A = ℕ} 0 1 = cc in absurd (omega arith)
     by Empty e m = let z : _≡_ {A = ℕ} 0 1 = cc in absurd (omega arith)
-    by Selection e m = let n = both (madeText (f .«selection_text»)) (madeText (f .unit)) m in (text-short (f .«selection_text») (n .0), text-short (f .unit) (n .1))
+    by Selection e m = let n = both (madeText (f .«selection_text»)) (madeText (f .unit)) m in
+        (text-short (f .«selection_text») (n .0), text-short (f .unit) (n .1))
 
 pub values-short : (f : ScreenPopupFields) → madeTexts f ≡ true → f .«has_possible_values» ≡ true → f .«possible_values» .len ≤ 51
 values-short f h e = by (f .«has_possible_values») e (made-parts f h .1 .1 .1)
@@ -79,19 +85,29 @@ values-short f h e = by (f .«has_possible_values») e (made-parts f h .1 .1 .1)
     by false e m = let z : _≡_ {A = ℕ} 0 1 = cc in absurd (omega arith)
 
 module _ (f : ScreenPopupFields) (z : Sized f) (r : Ranged f) (h : madeTexts f ≡ true) where
-  pub head-ok : (okItems headItems (headSays f) ≡ true) × ((length (writeItems headItems (headSays f)) ≡ f .header .len + f .info .len + 4) × ((f .header .len ≤ 51) × (f .info .len ≤ 51)))
+  pub head-ok : (okItems headItems (headSays f) ≡ true)
+      × ((length (writeItems headItems (headSays f)) ≡ f .header .len + f .info .len + 4)
+      × ((f .header .len ≤ 51) × (f .info .len ≤ 51)))
   head-ok =
       let a = text-ok (f .header) (z .0) (made-parts f h .0) in
-      let b = text-ok (f .info) (z .1 .0) (made-parts f h .1 .0) in
-      (rw (a .0, b .0, byte-ok (f .«max_timeout_interval») (r .0), flag-ok (f .«close_button_option»)), (simp (length-append, a .1 .0, b .1 .0) (omega arith), (a .1 .1, b .1 .1)))
+      let b = text-ok (f .info) (z .1 .0) (made-parts f h .1 .0) in (
+        rw (a .0, b .0, byte-ok (f .«max_timeout_interval») (r .0), flag-ok (f .«close_button_option»)),
+        (simp (length-append, a .1 .0, b .1 .0) (omega arith), (a .1 .1, b .1 .1)),
+      )
 
-  values-by : (p : Bool) → madeValues p f ≡ true → (okItems (valuesItems p) (valuesSays p f) ≡ true) × ((length (writeItems (valuesItems p) (valuesSays p f)) ≡ pick p (f .«possible_values» .len + 1) 0) × (pick p (f .«possible_values» .len + 1) 0 ≤ 52))
+  values-by : (p : Bool) → madeValues p f ≡ true
+      → (okItems (valuesItems p) (valuesSays p f) ≡ true)
+      × ((length (writeItems (valuesItems p) (valuesSays p f)) ≡ pick p (f .«possible_values» .len + 1) 0)
+      × (pick p (f .«possible_values» .len + 1) 0 ≤ 52))
   values-by true m =
       let a = text-ok (f .«possible_values») (z .1 .1 .1 .1) m in
       (rw (a .0), (simp (length-append, a .1 .0) (omega arith), omega (arith, a .1 .1)))
   values-by false m = (refl, (refl, omega arith))
 
-  pub values-ok : (okItems (valuesItems (f .«has_possible_values»)) (valuesSays (f .«has_possible_values») f) ≡ true) × ((length (writeItems (valuesItems (f .«has_possible_values»)) (valuesSays (f .«has_possible_values») f)) ≡ pick (f .«has_possible_values») (f .«possible_values» .len + 1) 0) × (pick (f .«has_possible_values») (f .«possible_values» .len + 1) 0 ≤ 52))
+  pub values-ok : (okItems (valuesItems (f .«has_possible_values»)) (valuesSays (f .«has_possible_values») f) ≡ true)
+      × ((length (writeItems (valuesItems (f .«has_possible_values»)) (valuesSays (f .«has_possible_values») f)) ≡ pick
+      (f .«has_possible_values») (f .«possible_values» .len + 1) 0) × (pick (f .«has_possible_values»)
+      (f .«possible_values» .len + 1) 0 ≤ 52))
   values-ok = values-by (f .«has_possible_values») (made-parts f h .1 .1 .1)
 
   more-by : (k : ScreenAdditionalData) → madeMore k f ≡ true → emptyLabel k f ≡ false
@@ -102,12 +118,21 @@ module _ (f : ScreenPopupFields) (z : Sized f) (r : Ranged f) (h : madeTexts f �
       let n = both (madeText (f .«selection_text»)) (madeText (f .unit)) m in
       let a = text-ok (f .«selection_text») (z .1 .1 .0) (n .0) in
       let b = text-ok (f .unit) (z .1 .1 .1 .0) (n .1) in (
-        rw (first-ok (bytesIn (f .«selection_text»)) (a .1 .0) (a .0) e, byte-ok (f .value) (r .1 .0), byte-ok (f .«min_value») (r .1 .1 .0), byte-ok (f .«max_value») (r .1 .1 .1 .0), byte-ok (f .«default_value») (r .1 .1 .1 .1), b .0),
+        rw (
+          first-ok (bytesIn (f .«selection_text»)) (a .1 .0) (a .0) e,
+          byte-ok (f .value) (r .1 .0),
+          byte-ok (f .«min_value») (r .1 .1 .0),
+          byte-ok (f .«max_value») (r .1 .1 .1 .0),
+          byte-ok (f .«default_value») (r .1 .1 .1 .1),
+          b .0,
+        ),
         simp (length-append, a .1 .0, b .1 .0) (omega arith),
       )
     where
-      first-ok : (v : List ℕ) → length v ≡ f .«selection_text» .len → okItem textItem v ≡ true → eqb (f .«selection_text» .len) 0 ≡ false → okItem (text 1 51) v ≡ true
-      first-ok [] l o q = let y : eqb (f .«selection_text» .len) 0 ≡ true = eq-eqb (f .«selection_text» .len) 0 (sym l) in let w : _≡_ {A = ℕ} 0 1 = cc in absurd (omega arith)
+      first-ok : (v : List ℕ) → length v ≡ f .«selection_text» .len → okItem textItem v ≡ true
+          → eqb (f .«selection_text» .len) 0 ≡ false → okItem (text 1 51) v ≡ true
+      first-ok [] l o q = let y : eqb (f .«selection_text» .len) 0 ≡ true = eq-eqb (f .«selection_text» .len) 0
+          (sym l) in let w : _≡_ {A = ℕ} 0 1 = cc in absurd (omega arith)
       first-ok (b ∷ v) l o q = o
 
   pub more-ok : emptyLabel (f .«additional_data») f ≡ false
@@ -117,7 +142,8 @@ module _ (f : ScreenPopupFields) (z : Sized f) (r : Ranged f) (h : madeTexts f �
 
   -- the three parts, in range, and their bytes
   pub parts-ok : emptyLabel (f .«additional_data») f ≡ false
-      → okItems (popupItems (f .«additional_data») (f .«has_possible_values»)) (headSays f ++ (moreSays (f .«additional_data») f ++ valuesSays (f .«has_possible_values») f)) ≡ true
+      → okItems (popupItems (f .«additional_data») (f .«has_possible_values»))
+      (headSays f ++ (moreSays (f .«additional_data») f ++ valuesSays (f .«has_possible_values») f)) ≡ true
   parts-ok e =
       let k = f .«additional_data» in
       let p = f .«has_possible_values» in
@@ -127,14 +153,16 @@ module _ (f : ScreenPopupFields) (z : Sized f) (r : Ranged f) (h : madeTexts f �
   pub parts-write : emptyLabel (f .«additional_data») f ≡ false
       → writePopup (popupSays f)
       ≡ writeItems headItems (headSays f)
-      ++ (writeItems (moreItems (f .«additional_data»)) (moreSays (f .«additional_data») f) ++ writeItems (valuesItems (f .«has_possible_values»)) (valuesSays (f .«has_possible_values») f))
+      ++ (writeItems (moreItems (f .«additional_data»)) (moreSays (f .«additional_data») f) ++ writeItems
+      (valuesItems (f .«has_possible_values»)) (valuesSays (f .«has_possible_values») f))
   parts-write e =
       let k = f .«additional_data» in
       let p = f .«has_possible_values» in
       groups-write k p (headSays f) (moreSays k f) (valuesSays p f) (head-ok .0) (more-ok e .0)
 
   pub parts-size : emptyLabel (f .«additional_data») f ≡ false
-      → length (writePopup (popupSays f)) ≡ f .header .len + f .info .len + 4 + moreSize (f .«additional_data») f + pick (f .«has_possible_values») (f .«possible_values» .len + 1) 0
+      → length (writePopup (popupSays f)) ≡ f .header .len + f .info .len + 4 + moreSize (f .«additional_data») f + pick
+      (f .«has_possible_values») (f .«possible_values» .len + 1) 0
   parts-size e =
       let k = f .«additional_data» in
       let p = f .«has_possible_values» in
@@ -144,14 +172,16 @@ module _ (f : ScreenPopupFields) (z : Sized f) (r : Ranged f) (h : madeTexts f �
 
   -- nothing to judge but the room
   pub stop-room : alone (f .«additional_data») (f .«has_possible_values») ≡ false → emptyLabel (f .«additional_data») f ≡ false
-      → stopPopup (popupSays f) ≡ over (f .header .len + f .info .len + 4 + moreSize (f .«additional_data») f + pick (f .«has_possible_values») (f .«possible_values» .len + 1) 0)
+      → stopPopup (popupSays f) ≡ over (f .header .len + f .info .len + 4 + moreSize (f .«additional_data») f + pick
+      (f .«has_possible_values») (f .«possible_values» .len + 1) 0)
   stop-room a e =
       let k = f .«additional_data» in
       let p = f .«has_possible_values» in
       rw a (each-room 1 55 0 (popupItems k p) (headSays f ++ (moreSays k f ++ valuesSays p f)) (parts-ok e) (omega arith) ∙ rw (parts-size e, zero-add))
 
   -- an empty label: 2, where the head has room
-  pub stop-label : f .«additional_data» ≡ Selection → f .«selection_text» .len ≡ 0 → stopPopup (popupSays f) ≡ pick (ltb 55 (f .header .len + f .info .len + 4)) 1 2
+  pub stop-label : f .«additional_data» ≡ Selection → f .«selection_text» .len ≡ 0 → stopPopup (popupSays f) ≡ pick
+      (ltb 55 (f .header .len + f .info .len + 4)) 1 2
   stop-label k l = by (f .«additional_data») (f .«has_possible_values») k (made-parts f h .1 .1 .0)
     where
       by : (k : ScreenAdditionalData) (p : Bool) → k ≡ Selection → madeMore k f ≡ true
@@ -162,14 +192,18 @@ module _ (f : ScreenPopupFields) (z : Sized f) (r : Ranged f) (h : madeTexts f �
           let n = both (madeText (f .«selection_text»)) (madeText (f .unit)) m in
           let a = text-ok (f .«selection_text») (z .1 .1 .0) (n .0) in
           stop-join 1 55 0 headItems (moreItems Selection ++ valuesItems p) (headSays f) (moreSays Selection f ++ valuesSays p f) (head-ok .0) (omega arith)
-          ∙ rw (no-label (bytesIn (f .«selection_text»)) (a .1 .0 ∙ l)) (ap (λ (n : ℕ). pick (ltb 55 n) 1 2) (zero-add (length (writeItems headItems (headSays f))) ∙ head-ok .1 .0))
+          ∙ rw (no-label (bytesIn (f .«selection_text»)) (a .1 .0 ∙ l))
+          (ap (λ (n : ℕ). pick (ltb 55 n) 1 2) (zero-add (length (writeItems headItems (headSays f)))
+          ∙ head-ok .1 .0))
 
   stop-at : alone (f .«additional_data») (f .«has_possible_values») ≡ false → emptyLabel (f .«additional_data») f ≡ false → (n : ℕ)
-      → n ≡ f .header .len + f .info .len + 4 + moreSize (f .«additional_data») f + pick (f .«has_possible_values») (f .«possible_values» .len + 1) 0 → over n ≡ stopPopup (popupSays f)
+      → n ≡ f .header .len + f .info .len + 4 + moreSize (f .«additional_data») f + pick (f .«has_possible_values»)
+      (f .«possible_values» .len + 1) 0 → over n ≡ stopPopup (popupSays f)
   stop-at a e n s = rw s (sym (stop-room a e))
 
   -- THE law of the judging: sizes decide
-  pub stop-sizes : stopSizes (f .header .len + f .info .len + 4) (f .«additional_data») (f .«selection_text» .len) (f .unit .len) (f .«has_possible_values») (f .«possible_values» .len)
+  pub stop-sizes : stopSizes (f .header .len + f .info .len + 4) (f .«additional_data») (f .«selection_text» .len)
+      (f .unit .len) (f .«has_possible_values») (f .«possible_values» .len)
       ≡ stopPopup (popupSays f)
   stop-sizes = by (f .«additional_data») (f .«has_possible_values») (eqb (f .«selection_text» .len) 0) refl refl refl
     where
@@ -194,7 +228,8 @@ judged-made f h = rw h (by (stopPopup (popupSays f)))
 pub accepted : (f : ScreenPopupFields) → numberIn (construct f) ≡ 0 → (madeTexts f ≡ true) × (stopPopup (popupSays f) ≡ 0)
 accepted f h = by (madeTexts f) refl h
   where
-    by : (m : Bool) → madeTexts f ≡ m → numberIn (pick m (unless (stopPopup (popupSays f)) (popupSays f)) (refused 5 0)) ≡ 0 → (madeTexts f ≡ true) × (stopPopup (popupSays f) ≡ 0)
+    by : (m : Bool) → madeTexts f ≡ m → numberIn (pick m (unless (stopPopup (popupSays f)) (popupSays f)) (refused 5 0))
+        ≡ 0 → (madeTexts f ≡ true) × (stopPopup (popupSays f) ≡ 0)
     by true e g = (e, judged-made f e ∙ h)
     by false e g = absurd (omega arith)
 
@@ -205,7 +240,9 @@ label-there f z r h s = by (f .«additional_data») refl (eqb (f .«selection_te
     by Absent ek t et = refl
     by Empty ek t et = refl
     by Selection ek false et = et
-    by Selection ek true et = absurd (none (ltb 55 (f .header .len + f .info .len + 4)) (sym (stop-label f z r h ek (eqb-true (f .«selection_text» .len) 0 et)) ∙ s))
+    by Selection ek true et = absurd
+        (none (ltb 55 (f .header .len + f .info .len + 4))
+        (sym (stop-label f z r h ek (eqb-true (f .«selection_text» .len) 0 et)) ∙ s))
       where
         none : (b : Bool) → _≡_ {A = ℕ} (pick b 1 2) 0 → ⊥
         none true g = omega arith

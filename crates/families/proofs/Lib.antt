@@ -19,5 +19,6 @@ pub mod PopupTaken
 pub mod ScreenLaws
 pub mod ScreenBack
 pub mod OneAnswerScreen
+pub mod OneAnswerLengths
 pub mod Answered
 pub mod RuledOut

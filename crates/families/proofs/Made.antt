@@ -76,7 +76,8 @@ empty-of (b ∷ v) h = let o = both (leb (length (b ∷ v)) 0) (nonzero (b ∷ v
 label-of : (v : List ℕ) → okItem (text 1 51) v ≡ true → okItem textItem v ≡ true
 label-of v h = passed (shorter 1 v) (pick (leb (length v) 51) (nonzero v) false) h .1
 
-pub says-fields : (k : ScreenAdditionalData) (p : Bool) (vs : List (List ℕ)) → Each (popupItems k p) vs → alone k p ≡ false → popupSays (fieldsOf (popup k p vs)) ≡ popup k p vs
+pub says-fields : (k : ScreenAdditionalData) (p : Bool) (vs : List (List ℕ)) → Each (popupItems k p) vs
+    → alone k p ≡ false → popupSays (fieldsOf (popup k p vs)) ≡ popup k p vs
 says-fields Absent true vs e a = let z : _≡_ {A = ℕ} 0 1 = cc in absurd (omega arith)
 says-fields Absent false vs (one {v = v1} p1 (one {v = v2} p2 (one {v = v3} p3 (one {v = v4} p4 none)))) a =
     rw (in-text v1, in-text v2, single-of 0 255 v3 p3 .0, flag-of v4 p4)
@@ -84,19 +85,57 @@ says-fields Empty false vs (one {v = v1} p1 (one {v = v2} p2 (one {v = v3} p3 (o
     rw (in-text v1, in-text v2, single-of 0 255 v3 p3 .0, flag-of v4 p4, ← (empty-of v5 p5))
 says-fields Empty true vs (one {v = v1} p1 (one {v = v2} p2 (one {v = v3} p3 (one {v = v4} p4 (one {v = v5} p5 (one {v = v6} p6 none)))))) a =
     rw (in-text v1, in-text v2, single-of 0 255 v3 p3 .0, flag-of v4 p4, ← (empty-of v5 p5), in-text v6)
-says-fields Selection false vs (one {v = v1} p1 (one {v = v2} p2 (one {v = v3} p3 (one {v = v4} p4 (one {v = v5} p5 (one {v = v6} p6 (one {v = v7} p7 (one {v = v8} p8 (one {v = v9} p9 (one {v = v10} p10 none)))))))))) a =
-    rw (in-text v1, in-text v2, single-of 0 255 v3 p3 .0, flag-of v4 p4, in-text v5, single-of 0 255 v6 p6 .0, single-of 0 255 v7 p7 .0, single-of 0 255 v8 p8 .0, single-of 0 255 v9 p9 .0, in-text v10)
-says-fields Selection true vs (one {v = v1} p1 (one {v = v2} p2 (one {v = v3} p3 (one {v = v4} p4 (one {v = v5} p5 (one {v = v6} p6 (one {v = v7} p7 (one {v = v8} p8 (one {v = v9} p9 (one {v = v10} p10 (one {v = v11} p11 none))))))))))) a =
-    rw (in-text v1, in-text v2, single-of 0 255 v3 p3 .0, flag-of v4 p4, in-text v5, single-of 0 255 v6 p6 .0, single-of 0 255 v7 p7 .0, single-of 0 255 v8 p8 .0, single-of 0 255 v9 p9 .0, in-text v10, in-text v11)
+says-fields Selection false vs
+    (one {v = v1} p1 (one {v = v2} p2
+    (one {v = v3} p3 (one {v = v4} p4
+    (one {v = v5} p5 (one {v = v6} p6
+    (one {v = v7} p7 (one {v = v8} p8 (one {v = v9} p9 (one {v = v10} p10 none)))))))))) a =
+    rw (
+      in-text v1,
+      in-text v2,
+      single-of 0 255 v3 p3 .0,
+      flag-of v4 p4,
+      in-text v5,
+      single-of 0 255 v6 p6 .0,
+      single-of 0 255 v7 p7 .0,
+      single-of 0 255 v8 p8 .0,
+      single-of 0 255 v9 p9 .0,
+      in-text v10,
+    )
+says-fields Selection true vs
+    (one {v = v1} p1 (one {v = v2} p2
+    (one {v = v3} p3 (one {v = v4} p4
+    (one {v = v5} p5 (one {v = v6} p6
+    (one {v = v7} p7 (one {v = v8} p8 (one {v = v9} p9 (one {v = v10} p10 (one {v = v11} p11 none))))))))))) a =
+    rw (
+      in-text v1,
+      in-text v2,
+      single-of 0 255 v3 p3 .0,
+      flag-of v4 p4,
+      in-text v5,
+      single-of 0 255 v6 p6 .0,
+      single-of 0 255 v7 p7 .0,
+      single-of 0 255 v8 p8 .0,
+      single-of 0 255 v9 p9 .0,
+      in-text v10,
+      in-text v11,
+    )
 
-pub made-fields : (k : ScreenAdditionalData) (p : Bool) (vs : List (List ℕ)) → Each (popupItems k p) vs → alone k p ≡ false → madeTexts (fieldsOf (popup k p vs)) ≡ true
+pub made-fields : (k : ScreenAdditionalData) (p : Bool) (vs : List (List ℕ)) → Each (popupItems k p) vs
+    → alone k p ≡ false → madeTexts (fieldsOf (popup k p vs)) ≡ true
 made-fields Absent true vs e a = let z : _≡_ {A = ℕ} 0 1 = cc in absurd (omega arith)
 made-fields Absent false vs (one {v = v1} p1 (one {v = v2} p2 (one p3 (one p4 none)))) a = rw (made-text v1 p1, made-text v2 p2)
 made-fields Empty false vs (one {v = v1} p1 (one {v = v2} p2 (one p3 (one p4 (one p5 none))))) a = rw (made-text v1 p1, made-text v2 p2)
-made-fields Empty true vs (one {v = v1} p1 (one {v = v2} p2 (one p3 (one p4 (one p5 (one {v = v6} p6 none)))))) a = rw (made-text v1 p1, made-text v2 p2, made-text v6 p6)
-made-fields Selection false vs (one {v = v1} p1 (one {v = v2} p2 (one p3 (one p4 (one {v = v5} p5 (one p6 (one p7 (one p8 (one p9 (one {v = v10} p10 none)))))))))) a =
+made-fields Empty true vs (one {v = v1} p1 (one {v = v2} p2 (one p3 (one p4 (one p5 (one {v = v6} p6 none)))))) a =
+    rw (made-text v1 p1, made-text v2 p2, made-text v6 p6)
+made-fields Selection false vs
+    (one {v = v1} p1 (one {v = v2} p2
+    (one p3 (one p4 (one {v = v5} p5 (one p6 (one p7 (one p8 (one p9 (one {v = v10} p10 none)))))))))) a =
     rw (made-text v1 p1, made-text v2 p2, made-text v5 (label-of v5 p5), made-text v10 p10)
-made-fields Selection true vs (one {v = v1} p1 (one {v = v2} p2 (one p3 (one p4 (one {v = v5} p5 (one p6 (one p7 (one p8 (one p9 (one {v = v10} p10 (one {v = v11} p11 none))))))))))) a =
+made-fields Selection true vs
+    (one {v = v1} p1 (one {v = v2} p2
+    (one p3 (one p4 (one {v = v5} p5
+    (one p6 (one p7 (one p8 (one p9 (one {v = v10} p10 (one {v = v11} p11 none))))))))))) a =
     rw (made-text v1 p1, made-text v2 p2, made-text v5 (label-of v5 p5), made-text v10 p10, made-text v11 p11)
 
 pub construct-by : (f : ScreenPopupFields) (q : Popup) → madeTexts f ≡ true → popupSays f ≡ q → stopPopup q ≡ 0 → construct f ≡ got (popupOf (writePopup q))
@@ -125,7 +164,8 @@ stop-ok : (k : ScreenAdditionalData) (p : Bool) (vs : List (List ℕ)) → lengt
     → (okPopup (popup k p vs) ≡ true) × (length (writePopup (popup k p vs)) ≤ 55)
 stop-ok k p vs l h = by (alone k p) refl h
   where
-    by : (a : Bool) → alone k p ≡ a → pick a 2 (stopEach 1 55 0 (popupItems k p) vs) ≡ 0 → (okPopup (popup k p vs) ≡ true) × (length (writePopup (popup k p vs)) ≤ 55)
+    by : (a : Bool) → alone k p ≡ a → pick a 2 (stopEach 1 55 0 (popupItems k p) vs) ≡ 0
+        → (okPopup (popup k p vs) ≡ true) × (length (writePopup (popup k p vs)) ≤ 55)
     by true e g = absurd (omega arith)
     by false e g = let r = each-ok 0 55 0 (popupItems k p) vs l g in let m = r .1 (omega arith) in (rw e (r .0), omega arith)
 
@@ -145,7 +185,9 @@ inspect-says f q h = by (madeTexts f) (stopPopup (popupSays f)) refl h
     by true zero e g =
         let r = says-fit f e in
         let i : q ≡ popupOf (writePopup (popupSays f)) = sym (cc) in
-        rw i (inspect-of (f .«additional_data») (f .«has_possible_values») (headSays f ++ (moreSays (f .«additional_data») f ++ valuesSays (f .«has_possible_values») f)) (r .0) (r .1))
+        rw i (inspect-of (f .«additional_data») (f .«has_possible_values»)
+        (headSays f ++ (moreSays (f .«additional_data») f ++ valuesSays (f .«has_possible_values») f)) (r .0)
+        (r .1))
 
 -- the bytes of a popup that was inspected
 popup-is : (q : ScreenPopup) (w : List ℕ) → length (q .bytes) ≡ 55 → q .len ≤ 55 → zeros (drop (q .len) (q .bytes)) ≡ true → length w ≡ q .len
@@ -222,12 +264,15 @@ blanked f = record {
 
 fields-says : (f : ScreenPopupFields) → Sized f → madeTexts f ≡ true → fieldsOf (popupSays f) ≡ blanked f
 fields-says f z h =
-    let a = both (madeText (f .header)) (pick (madeText (f .info)) (pick (madeMore (f .«additional_data») f) (madeValues (f .«has_possible_values») f) false) false) h in
+    let a = both (madeText (f .header))
+    (pick (madeText (f .info)) (pick (madeMore (f .«additional_data») f) (madeValues (f .«has_possible_values») f)
+    false) false) h in
     let b = both (madeText (f .info)) (pick (madeMore (f .«additional_data») f) (madeValues (f .«has_possible_values») f) false) (a .1) in
     let c = both (madeMore (f .«additional_data») f) (madeValues (f .«has_possible_values») f) (b .1) in
     by (f .«additional_data») (f .«has_possible_values») refl refl (made-is (f .header) (z .0) (a .0)) (made-is (f .info) (z .1 .0) (b .0)) (c .0) (c .1)
   where
-    by : (k : ScreenAdditionalData) (p : Bool) → f .«additional_data» ≡ k → f .«has_possible_values» ≡ p → textOf (bytesIn (f .header)) ≡ f .header → textOf (bytesIn (f .info)) ≡ f .info
+    by : (k : ScreenAdditionalData) (p : Bool) → f .«additional_data» ≡ k → f .«has_possible_values» ≡ p
+        → textOf (bytesIn (f .header)) ≡ f .header → textOf (bytesIn (f .info)) ≡ f .info
         → madeMore k f ≡ true → madeValues p f ≡ true → fieldsOf (popupSays f) ≡ blanked f
     by Absent true ek ep x y m v = rw (ek, ep, x, y, bit-is (f .«close_button_option»), made-is (f .«possible_values») (z .1 .1 .1 .1) v)
     by Absent false ek ep x y m v = rw (ek, ep, x, y, bit-is (f .«close_button_option»))
@@ -235,7 +280,16 @@ fields-says f z h =
     by Empty false ek ep x y m v = rw (ek, ep, x, y, bit-is (f .«close_button_option»))
     by Selection true ek ep x y m v =
         let n = both (madeText (f .«selection_text»)) (madeText (f .unit)) m in
-        rw (ek, ep, x, y, bit-is (f .«close_button_option»), made-is (f .«selection_text») (z .1 .1 .0) (n .0), made-is (f .unit) (z .1 .1 .1 .0) (n .1), made-is (f .«possible_values») (z .1 .1 .1 .1) v)
+        rw (
+          ek,
+          ep,
+          x,
+          y,
+          bit-is (f .«close_button_option»),
+          made-is (f .«selection_text») (z .1 .1 .0) (n .0),
+          made-is (f .unit) (z .1 .1 .1 .0) (n .1),
+          made-is (f .«possible_values») (z .1 .1 .1 .1) v,
+        )
     by Selection false ek ep x y m v =
         let n = both (madeText (f .«selection_text»)) (madeText (f .unit)) m in
         rw (ek, ep, x, y, bit-is (f .«close_button_option»), made-is (f .«selection_text») (z .1 .1 .0) (n .0), made-is (f .unit) (z .1 .1 .1 .0) (n .1))

@@ -70,11 +70,13 @@ pub fc-told : (r : FcRead) → fcTold (toldFc r) ≡ r
 fc-told (GotFc c) = ap GotFc (fc-of c)
 fc-told (RefusedFc r) = ap RefusedFc (refusal-back r)
 
-pub fc-read-one : (κs : Lfts 1) (a : Dens κs fc-read-kinds.ps) (x y : resT fc-read-kinds.r κs .Denot) (s t : AtExit (endedOf 1 fc-read-kinds.ps fc-read-kinds.r) κs)
+pub fc-read-one : (κs : Lfts 1) (a : Dens κs fc-read-kinds.ps) (x y : resT fc-read-kinds.r κs .Denot)
+    (s t : AtExit (endedOf 1 fc-read-kinds.ps fc-read-kinds.r) κs)
     → fc-read.Post κs a x s → fc-read.Post κs a y t → x ≡ y
 fc-read-one κs a x y s t p q = sym (fc-told x) ∙ ap fcTold (p ∙ sym q) ∙ fc-told y
 
-pub fc-write-to-one : (κs : Lfts 1) (a : Dens κs fc-write-to-kinds.ps) (x y : resT fc-write-to-kinds.r κs .Denot) (s t : AtExit (endedOf 1 fc-write-to-kinds.ps fc-write-to-kinds.r) κs)
+pub fc-write-to-one : (κs : Lfts 1) (a : Dens κs fc-write-to-kinds.ps) (x y : resT fc-write-to-kinds.r κs .Denot)
+    (s t : AtExit (endedOf 1 fc-write-to-kinds.ps fc-write-to-kinds.r) κs)
     → fc-write-to.Post κs a x s → fc-write-to.Post κs a y t → (x ≡ y) × (now (s .1 .0) ≡ now (t .1 .0))
 fc-write-to-one κs a x y s t p q = (written-fixed x y _ (p .0) (q .0), p .1 ∙ sym (q .1))
 
@@ -87,11 +89,13 @@ pub osd-told : (r : OsdRead) → osdTold (toldOsd r) ≡ r
 osd-told (GotOsd c) = ap GotOsd (osd-of c)
 osd-told (RefusedOsd r) = ap RefusedOsd (refusal-back r)
 
-pub osd-read-one : (κs : Lfts 1) (a : Dens κs osd-read-kinds.ps) (x y : resT osd-read-kinds.r κs .Denot) (s t : AtExit (endedOf 1 osd-read-kinds.ps osd-read-kinds.r) κs)
+pub osd-read-one : (κs : Lfts 1) (a : Dens κs osd-read-kinds.ps) (x y : resT osd-read-kinds.r κs .Denot)
+    (s t : AtExit (endedOf 1 osd-read-kinds.ps osd-read-kinds.r) κs)
     → osd-read.Post κs a x s → osd-read.Post κs a y t → x ≡ y
 osd-read-one κs a x y s t p q = sym (osd-told x) ∙ ap osdTold (p ∙ sym q) ∙ osd-told y
 
-pub osd-write-to-one : (κs : Lfts 1) (a : Dens κs osd-write-to-kinds.ps) (x y : resT osd-write-to-kinds.r κs .Denot) (s t : AtExit (endedOf 1 osd-write-to-kinds.ps osd-write-to-kinds.r) κs)
+pub osd-write-to-one : (κs : Lfts 1) (a : Dens κs osd-write-to-kinds.ps) (x y : resT osd-write-to-kinds.r κs .Denot)
+    (s t : AtExit (endedOf 1 osd-write-to-kinds.ps osd-write-to-kinds.r) κs)
     → osd-write-to.Post κs a x s → osd-write-to.Post κs a y t → (x ≡ y) × (now (s .1 .0) ≡ now (t .1 .0))
 osd-write-to-one κs a x y s t p q = (written-fixed x y _ (p .0) (q .0), p .1 ∙ sym (q .1))
 
@@ -104,11 +108,13 @@ pub vtx-told : (r : VtxRead) → vtxTold (toldVtx r) ≡ r
 vtx-told (GotVtx c) = ap GotVtx (vtx-of c)
 vtx-told (RefusedVtx r) = ap RefusedVtx (refusal-back r)
 
-pub vtx-read-one : (κs : Lfts 1) (a : Dens κs vtx-read-kinds.ps) (x y : resT vtx-read-kinds.r κs .Denot) (s t : AtExit (endedOf 1 vtx-read-kinds.ps vtx-read-kinds.r) κs)
+pub vtx-read-one : (κs : Lfts 1) (a : Dens κs vtx-read-kinds.ps) (x y : resT vtx-read-kinds.r κs .Denot)
+    (s t : AtExit (endedOf 1 vtx-read-kinds.ps vtx-read-kinds.r) κs)
     → vtx-read.Post κs a x s → vtx-read.Post κs a y t → x ≡ y
 vtx-read-one κs a x y s t p q = sym (vtx-told x) ∙ ap vtxTold (p ∙ sym q) ∙ vtx-told y
 
-pub vtx-write-to-one : (κs : Lfts 1) (a : Dens κs vtx-write-to-kinds.ps) (x y : resT vtx-write-to-kinds.r κs .Denot) (s t : AtExit (endedOf 1 vtx-write-to-kinds.ps vtx-write-to-kinds.r) κs)
+pub vtx-write-to-one : (κs : Lfts 1) (a : Dens κs vtx-write-to-kinds.ps) (x y : resT vtx-write-to-kinds.r κs .Denot)
+    (s t : AtExit (endedOf 1 vtx-write-to-kinds.ps vtx-write-to-kinds.r) κs)
     → vtx-write-to.Post κs a x s → vtx-write-to.Post κs a y t → (x ≡ y) × (now (s .1 .0) ≡ now (t .1 .0))
 vtx-write-to-one κs a x y s t p q = (written-fixed x y _ (p .0) (q .0), p .1 ∙ sym (q .1))
 
@@ -121,11 +127,13 @@ pub led-told : (r : LedRead) → ledTold (toldLed r) ≡ r
 led-told (GotLed c) = ap GotLed (led-of c)
 led-told (RefusedLed r) = ap RefusedLed (refusal-back r)
 
-pub led-read-one : (κs : Lfts 1) (a : Dens κs led-read-kinds.ps) (x y : resT led-read-kinds.r κs .Denot) (s t : AtExit (endedOf 1 led-read-kinds.ps led-read-kinds.r) κs)
+pub led-read-one : (κs : Lfts 1) (a : Dens κs led-read-kinds.ps) (x y : resT led-read-kinds.r κs .Denot)
+    (s t : AtExit (endedOf 1 led-read-kinds.ps led-read-kinds.r) κs)
     → led-read.Post κs a x s → led-read.Post κs a y t → x ≡ y
 led-read-one κs a x y s t p q = sym (led-told x) ∙ ap ledTold (p ∙ sym q) ∙ led-told y
 
-pub led-write-to-one : (κs : Lfts 1) (a : Dens κs led-write-to-kinds.ps) (x y : resT led-write-to-kinds.r κs .Denot) (s t : AtExit (endedOf 1 led-write-to-kinds.ps led-write-to-kinds.r) κs)
+pub led-write-to-one : (κs : Lfts 1) (a : Dens κs led-write-to-kinds.ps) (x y : resT led-write-to-kinds.r κs .Denot)
+    (s t : AtExit (endedOf 1 led-write-to-kinds.ps led-write-to-kinds.r) κs)
     → led-write-to.Post κs a x s → led-write-to.Post κs a y t → (x ≡ y) × (now (s .1 .0) ≡ now (t .1 .0))
 led-write-to-one κs a x y s t p q = (written-fixed x y _ (p .0) (q .0), p .1 ∙ sym (q .1))
 
@@ -138,11 +146,14 @@ pub general-told : (r : GeneralRead) → generalTold (toldGeneral r) ≡ r
 general-told (GotGeneral c) = ap GotGeneral (general-of c)
 general-told (RefusedGeneral r) = ap RefusedGeneral (refusal-back r)
 
-pub general-read-one : (κs : Lfts 1) (a : Dens κs general-read-kinds.ps) (x y : resT general-read-kinds.r κs .Denot) (s t : AtExit (endedOf 1 general-read-kinds.ps general-read-kinds.r) κs)
+pub general-read-one : (κs : Lfts 1) (a : Dens κs general-read-kinds.ps) (x y : resT general-read-kinds.r κs .Denot)
+    (s t : AtExit (endedOf 1 general-read-kinds.ps general-read-kinds.r) κs)
     → general-read.Post κs a x s → general-read.Post κs a y t → x ≡ y
 general-read-one κs a x y s t p q = sym (general-told x) ∙ ap generalTold (p ∙ sym q) ∙ general-told y
 
-pub general-write-to-one : (κs : Lfts 1) (a : Dens κs general-write-to-kinds.ps) (x y : resT general-write-to-kinds.r κs .Denot) (s t : AtExit (endedOf 1 general-write-to-kinds.ps general-write-to-kinds.r) κs)
+pub general-write-to-one : (κs : Lfts 1) (a : Dens κs general-write-to-kinds.ps)
+    (x y : resT general-write-to-kinds.r κs .Denot)
+    (s t : AtExit (endedOf 1 general-write-to-kinds.ps general-write-to-kinds.r) κs)
     → general-write-to.Post κs a x s → general-write-to.Post κs a y t → (x ≡ y) × (now (s .1 .0) ≡ now (t .1 .0))
 general-write-to-one κs a x y s t p q = (written-fixed x y _ (p .0) (q .0), p .1 ∙ sym (q .1))
 
@@ -155,11 +166,15 @@ pub crossfire-told : (r : CrossfireRead) → crossfireTold (toldCrossfire r) ≡
 crossfire-told (GotCrossfire c) = ap GotCrossfire (crossfire-of c)
 crossfire-told (RefusedCrossfire r) = ap RefusedCrossfire (refusal-back r)
 
-pub crossfire-read-one : (κs : Lfts 1) (a : Dens κs crossfire-read-kinds.ps) (x y : resT crossfire-read-kinds.r κs .Denot) (s t : AtExit (endedOf 1 crossfire-read-kinds.ps crossfire-read-kinds.r) κs)
+pub crossfire-read-one : (κs : Lfts 1) (a : Dens κs crossfire-read-kinds.ps)
+    (x y : resT crossfire-read-kinds.r κs .Denot)
+    (s t : AtExit (endedOf 1 crossfire-read-kinds.ps crossfire-read-kinds.r) κs)
     → crossfire-read.Post κs a x s → crossfire-read.Post κs a y t → x ≡ y
 crossfire-read-one κs a x y s t p q = sym (crossfire-told x) ∙ ap crossfireTold (p ∙ sym q) ∙ crossfire-told y
 
-pub crossfire-write-to-one : (κs : Lfts 1) (a : Dens κs crossfire-write-to-kinds.ps) (x y : resT crossfire-write-to-kinds.r κs .Denot) (s t : AtExit (endedOf 1 crossfire-write-to-kinds.ps crossfire-write-to-kinds.r) κs)
+pub crossfire-write-to-one : (κs : Lfts 1) (a : Dens κs crossfire-write-to-kinds.ps)
+    (x y : resT crossfire-write-to-kinds.r κs .Denot)
+    (s t : AtExit (endedOf 1 crossfire-write-to-kinds.ps crossfire-write-to-kinds.r) κs)
     → crossfire-write-to.Post κs a x s → crossfire-write-to.Post κs a y t → (x ≡ y) × (now (s .1 .0) ≡ now (t .1 .0))
 crossfire-write-to-one κs a x y s t p q = (written-fixed x y _ (p .0) (q .0), p .1 ∙ sym (q .1))
 
@@ -172,15 +187,18 @@ pub flow-told : (r : FlowControlRead) → flowTold (toldFlow r) ≡ r
 flow-told (GotFlow c) = ap GotFlow (flow-of c)
 flow-told (RefusedFlow r) = ap RefusedFlow (refusal-back r)
 
-pub flow-read-one : (κs : Lfts 1) (a : Dens κs flow-read-kinds.ps) (x y : resT flow-read-kinds.r κs .Denot) (s t : AtExit (endedOf 1 flow-read-kinds.ps flow-read-kinds.r) κs)
+pub flow-read-one : (κs : Lfts 1) (a : Dens κs flow-read-kinds.ps) (x y : resT flow-read-kinds.r κs .Denot)
+    (s t : AtExit (endedOf 1 flow-read-kinds.ps flow-read-kinds.r) κs)
     → flow-read.Post κs a x s → flow-read.Post κs a y t → x ≡ y
 flow-read-one κs a x y s t p q = sym (flow-told x) ∙ ap flowTold (p ∙ sym q) ∙ flow-told y
 
-pub flow-write-to-one : (κs : Lfts 1) (a : Dens κs flow-write-to-kinds.ps) (x y : resT flow-write-to-kinds.r κs .Denot) (s t : AtExit (endedOf 1 flow-write-to-kinds.ps flow-write-to-kinds.r) κs)
+pub flow-write-to-one : (κs : Lfts 1) (a : Dens κs flow-write-to-kinds.ps) (x y : resT flow-write-to-kinds.r κs .Denot)
+    (s t : AtExit (endedOf 1 flow-write-to-kinds.ps flow-write-to-kinds.r) κs)
     → flow-write-to.Post κs a x s → flow-write-to.Post κs a y t → (x ≡ y) × (now (s .1 .0) ≡ now (t .1 .0))
 flow-write-to-one κs a x y s t p q = (written-fixed x y _ (p .0) (q .0), p .1 ∙ sym (q .1))
 
 -- ---- the enum of families
-pub command-id-one : (κs : Lfts 0) (a : Dens κs command-id-kinds.ps) (x y : resT command-id-kinds.r κs .Denot) (s t : AtExit (endedOf 0 command-id-kinds.ps command-id-kinds.r) κs)
+pub command-id-one : (κs : Lfts 0) (a : Dens κs command-id-kinds.ps) (x y : resT command-id-kinds.r κs .Denot)
+    (s t : AtExit (endedOf 0 command-id-kinds.ps command-id-kinds.r) κs)
     → command-id.Post κs a x s → command-id.Post κs a y t → x ≡ y
 command-id-one κs a x y s t p q = p ∙ sym q

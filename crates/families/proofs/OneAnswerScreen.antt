@@ -62,6 +62,7 @@ pub new-one : (κs : Lfts 0) (a : Dens κs new-kinds.ps) (x y : resT new-kinds.r
     → new.Post κs a x s → new.Post κs a y t → x ≡ y
 new-one κs a x y s t p q = popup-answer-one (construct (a .0)) x y p q
 
-pub blank-fields-one : (κs : Lfts 0) (a : Dens κs blank-kinds.ps) (x y : resT blank-kinds.r κs .Denot) (s t : AtExit (endedOf 0 blank-kinds.ps blank-kinds.r) κs)
+pub blank-fields-one : (κs : Lfts 0) (a : Dens κs blank-kinds.ps) (x y : resT blank-kinds.r κs .Denot)
+    (s t : AtExit (endedOf 0 blank-kinds.ps blank-kinds.r) κs)
     → blank.Post κs a x s → blank.Post κs a y t → x ≡ y
 blank-fields-one κs a x y s t p q = p ∙ sym q

@@ -49,15 +49,18 @@ ack-one a x y p q =
     (outcome-one (x .outcome) (y .outcome) (p .0 ∙ sym (q .0))) (p .1 .0 ∙ sym (q .1 .0)) (p .1 .1 .0 ∙ sym (q .1 .1 .0)) (p .1 .1 .1 ∙ sym (q .1 .1 .1))
 
 -- ---- the functions
-pub new-text-one : (κs : Lfts 1) (a : Dens κs new-text-kinds.ps) (x y : resT new-text-kinds.r κs .Denot) (s t : AtExit (endedOf 1 new-text-kinds.ps new-text-kinds.r) κs)
+pub new-text-one : (κs : Lfts 1) (a : Dens κs new-text-kinds.ps) (x y : resT new-text-kinds.r κs .Denot)
+    (s t : AtExit (endedOf 1 new-text-kinds.ps new-text-kinds.r) κs)
     → new-text.Post κs a x s → new-text.Post κs a y t → x ≡ y
 new-text-one κs a x y s t p q = text-one (newText (now (a .0))) x y p q
 
-pub made-bytes-one : (κs : Lfts 1) (a : Dens κs made-bytes-kinds.ps) (x y : resT made-bytes-kinds.r κs .Denot) (s t : AtExit (endedOf 1 made-bytes-kinds.ps made-bytes-kinds.r) κs)
+pub made-bytes-one : (κs : Lfts 1) (a : Dens κs made-bytes-kinds.ps) (x y : resT made-bytes-kinds.r κs .Denot)
+    (s t : AtExit (endedOf 1 made-bytes-kinds.ps made-bytes-kinds.r) κs)
     → made-bytes.Post κs a x s → made-bytes.Post κs a y t → x ≡ y
 made-bytes-one κs a x y s t p q = p ∙ sym q
 
-pub new-ack-one : (κs : Lfts 1) (a : Dens κs new-ack-kinds.ps) (x y : resT new-ack-kinds.r κs .Denot) (s t : AtExit (endedOf 1 new-ack-kinds.ps new-ack-kinds.r) κs)
+pub new-ack-one : (κs : Lfts 1) (a : Dens κs new-ack-kinds.ps) (x y : resT new-ack-kinds.r κs .Denot)
+    (s t : AtExit (endedOf 1 new-ack-kinds.ps new-ack-kinds.r) κs)
     → new-ack.Post κs a x s → new-ack.Post κs a y t → x ≡ y
 new-ack-one κs a x y s t p q = ack-one (newAck (ackWith (a .0) (a .1 .0) (a .1 .1 .0)) (now (a .1 .1 .1 .0))) x y p q
 
@@ -65,7 +68,8 @@ pub read-one : (κs : Lfts 1) (a : Dens κs read-kinds.ps) (x y : resT read-kind
     → read.Post κs a x s → read.Post κs a y t → x ≡ y
 read-one κs a x y s t p q = ack-one (readAck (now (a .0))) x y p q
 
-pub write-to-one : (κs : Lfts 2) (a : Dens κs write-to-kinds.ps) (x y : resT write-to-kinds.r κs .Denot) (s t : AtExit (endedOf 2 write-to-kinds.ps write-to-kinds.r) κs)
+pub write-to-one : (κs : Lfts 2) (a : Dens κs write-to-kinds.ps) (x y : resT write-to-kinds.r κs .Denot)
+    (s t : AtExit (endedOf 2 write-to-kinds.ps write-to-kinds.r) κs)
     → write-to.Post κs a x s → write-to.Post κs a y t → (x ≡ y) × (now (s .1 .1 .1 .0) ≡ now (t .1 .1 .1 .0))
 write-to-one κs a x y s t p q =
     let b = now (a .1 .1 .1 .0) in

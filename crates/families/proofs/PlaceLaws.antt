@@ -57,9 +57,11 @@ some-remain s at h = rw (drop-cons s at 0 h)
 
 -- ---- what the readers of items say, taken together
 abbrev pub TextGot : List ℕ → ℕ → ℕ → ℕ → Type 0
-TextGot s at n next = (readItem textItem (drop at s) ≡ got (take n (drop at s))) × ((at + (length (take n (drop at s)) + 1) ≡ next) × ((next ≡ at + (n + 1)) × ((at + n < length s) × (n ≤ 51))))
+TextGot s at n next = (readItem textItem (drop at s) ≡ got (take n (drop at s)))
+    × ((at + (length (take n (drop at s)) + 1) ≡ next) × ((next ≡ at + (n + 1)) × ((at + n < length s) × (n ≤ 51))))
 
-pub text-got : (s : List ℕ) (at n next : ℕ) (r : TextRead) → r ≡ GotText n next → (toldText s at r ≡ readItem textItem (drop at s)) × textIn s at r → TextGot s at n next
+pub text-got : (s : List ℕ) (at n next : ℕ) (r : TextRead) → r ≡ GotText n next
+    → (toldText s at r ≡ readItem textItem (drop at s)) × textIn s at r → TextGot s at n next
 text-got s at n next r e h =
     let a : got (take n (drop at s)) ≡ readItem textItem (drop at s) = rw e at (h .0) in
     let b : (at + n < length s) × (next ≡ at + (n + 1)) = rw e at (h .1) in
@@ -112,7 +114,8 @@ values-got s at n next x =
     let e = some-remain s at l in
     (rw (e, x .0), (sym e, ((refl, x .1 .1 .0), ((omega (arith, x .1 .1 .1 .0), x .1 .1 .1 .1), omega (arith, x .1 .1 .0, x .1 .1 .1 .0)))))
 
-pub values-not : (s : List ℕ) (at n p : ℕ) → at < length s → readItem textItem (drop at s) ≡ refused n p → refused n p ≡ readItems (valuesItems (remains (drop at s))) s at
+pub values-not : (s : List ℕ) (at n p : ℕ) → at < length s → readItem textItem (drop at s) ≡ refused n p
+    → refused n p ≡ readItems (valuesItems (remains (drop at s))) s at
 values-not s at n p l h = rw (some-remain s at l, h)
 
 -- ---- additional data
@@ -188,7 +191,8 @@ pub values-from : (s : List ℕ) (at : ℕ) (v : Values) (r : ValuesRead) → r 
     → (toldValues s r ≡ readItems (valuesItems (remains (drop at s))) s at) × valuesIn s at r → ValuesGot s at v
 values-from s at v r e f = (rw e at (f .0), rw e at (f .1))
 
-pub values-refused : (s : List ℕ) (at : ℕ) (k : Refusal) (r : ValuesRead) → r ≡ RefusedValues k → toldValues s r ≡ readItems (valuesItems (remains (drop at s))) s at
+pub values-refused : (s : List ℕ) (at : ℕ) (k : Refusal) (r : ValuesRead) → r ≡ RefusedValues k
+    → toldValues s r ≡ readItems (valuesItems (remains (drop at s))) s at
     → refused (refusalNumber k) 0 ≡ readItems (valuesItems (remains (drop at s))) s at
 values-refused s at k r e f = rw e at f
 
@@ -199,7 +203,8 @@ from-head s at b h e f =
     ap (λ (a : Answer (List (List ℕ))). andThen a (λ h. readMore s (additionalOf (drop (endOf headItems h at) s)) h (endOf headItems h at))) (sym e)
     ∙ ap (λ (x : ℕ). readMore s (additionalOf (drop x s)) h x) f
 
-from-more : (s : List ℕ) (k j : ScreenAdditionalData) (h m : List (List ℕ)) (b e : ℕ) → k ≡ j → got m ≡ readItems (moreItems j) s b → endOf (moreItems k) m b ≡ e
+from-more : (s : List ℕ) (k j : ScreenAdditionalData) (h m : List (List ℕ)) (b e : ℕ) → k ≡ j
+    → got m ≡ readItems (moreItems j) s b → endOf (moreItems k) m b ≡ e
     → readMore s j h b ≡ readRest s k h m e
 from-more s k j h m b e x f g =
     ap (λ (a : Answer (List (List ℕ))). andThen a (λ m. readRest s j h m (endOf (moreItems j) m b))) (sym f) ∙ rw (← x, g)

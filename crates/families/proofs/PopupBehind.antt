@@ -40,11 +40,14 @@ rest-behind s k kind h m e =
 more-behind : (s : List ℕ) (k : ℕ) (kind : ScreenAdditionalData) (h : List (List ℕ)) (b : ℕ) → readMore (drop k s) kind h b ≡ readMore s kind h (k + b)
 more-behind s k kind h b =
     ap (λ (x : Answer (List (List ℕ))). andThen x (λ m. readRest (drop k s) kind h m (endOf (moreItems kind) m b))) (items-behind (moreItems kind) s k b)
-    ∙ then-same (readItems (moreItems kind) s (k + b)) _ _ (λ m. rest-behind s k kind h m (endOf (moreItems kind) m b) ∙ ap (readRest s kind h m) (end-behind (moreItems kind) m k b))
+    ∙ then-same (readItems (moreItems kind) s (k + b)) _ _ (λ m. rest-behind s k kind h m (endOf (moreItems kind) m b)
+    ∙ ap (readRest s kind h m) (end-behind (moreItems kind) m k b))
 
 pub popup-behind : (s : List ℕ) (k : ℕ) → readPopup (drop k s) 0 ≡ readPopup s k
 popup-behind s k =
-    ap (λ (x : Answer (List (List ℕ))). andThen x (λ h. readMore (drop k s) (additionalOf (drop (endOf headItems h 0) (drop k s))) h (endOf headItems h 0))) (read-behind headItems s k)
+    ap (λ (x : Answer (List (List ℕ))). andThen x
+    (λ h. readMore (drop k s) (additionalOf (drop (endOf headItems h 0) (drop k s))) h (endOf headItems h 0)))
+    (read-behind headItems s k)
     ∙ then-same (readItems headItems s k) _ _ (λ h.
     more-behind s k (additionalOf (drop (endOf headItems h 0) (drop k s))) h (endOf headItems h 0)
     ∙ ap (λ (l : List ℕ). readMore s (additionalOf l) h (k + endOf headItems h 0)) (drop-drop (endOf headItems h 0) k s)
@@ -55,7 +58,16 @@ row-taken v s s' t = body-taken screenRows (got v) s s' t ∙ ap (λ (x : Answer
 
 pub screen-taken : (a : Answer (List ℕ)) (s s' : List ℕ) → Takes byte a s s' → readScreen s ≡ screenBehind a s'
 screen-taken (got v) s s' t =
-    ap (λ (x : Answer (List ℕ)). andThen x (λ w. pick (eqb (first w) 0x01) (andThen (readPopup s 1) (λ q. andThen (fitted q) (λ p. got (started p)))) (andThen (readRow screenRows s (first w)) (λ b. got (returned b))))) (sym (t .0))
-    ∙ ap (λ (x : Answer Said). pick (eqb (first v) 0x01) (andThen (readPopup s 1) (λ q. andThen (fitted q) (λ p. got (started p)))) (andThen x (λ b. got (returned b)))) (sym (row-taken v s s' t))
-    ∙ ap (λ (x : Answer Popup). pick (eqb (first v) 0x01) (andThen x (λ q. andThen (fitted q) (λ p. got (started p)))) (andThen (readBehind screenRows s' (first v)) (λ b. got (returned b)))) (sym (ap (λ (l : List ℕ). readPopup l 0) (t .1) ∙ popup-behind s 1))
-screen-taken (refused n p) s s' t = ap (λ (x : Answer (List ℕ)). andThen x (λ w. pick (eqb (first w) 0x01) (andThen (readPopup s 1) (λ q. andThen (fitted q) (λ p. got (started p)))) (andThen (readRow screenRows s (first w)) (λ b. got (returned b))))) (sym (t .0))
+    ap (λ (x : Answer (List ℕ)). andThen x
+    (λ w. pick (eqb (first w) 0x01) (andThen (readPopup s 1) (λ q. andThen (fitted q) (λ p. got (started p))))
+    (andThen (readRow screenRows s (first w)) (λ b. got (returned b))))) (sym (t .0))
+    ∙ ap (λ (x : Answer Said). pick (eqb (first v) 0x01)
+    (andThen (readPopup s 1) (λ q. andThen (fitted q) (λ p. got (started p)))) (andThen x (λ b. got (returned b))))
+    (sym (row-taken v s s' t))
+    ∙ ap (λ (x : Answer Popup). pick (eqb (first v) 0x01) (andThen x (λ q. andThen (fitted q) (λ p. got (started p))))
+    (andThen (readBehind screenRows s' (first v)) (λ b. got (returned b))))
+    (sym (ap (λ (l : List ℕ). readPopup l 0) (t .1) ∙ popup-behind s 1))
+screen-taken (refused n p) s s' t = ap
+    (λ (x : Answer (List ℕ)). andThen x
+    (λ w. pick (eqb (first w) 0x01) (andThen (readPopup s 1) (λ q. andThen (fitted q) (λ p. got (started p))))
+    (andThen (readRow screenRows s (first w)) (λ b. got (returned b))))) (sym (t .0))

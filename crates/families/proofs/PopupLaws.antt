@@ -63,7 +63,8 @@ kind-back Empty p (l ∷ m) v g h a =
 kind-back Selection p [] v g h a = let z : _≡_ {A = ℕ} 0 1 = cc in absurd (omega arith)
 kind-back Selection p (l ∷ m) v g h a =
     let o = both (okItem (text 1 51) l) (okItems selectionItems m) g in
-    rw (append-assoc (itemBytes (text 1 51) l) (writeItems selectionItems m) (writeItems (valuesItems p) v)) (label-kind l (writeItems selectionItems m ++ writeItems (valuesItems p) v) (o .0))
+    rw (append-assoc (itemBytes (text 1 51) l) (writeItems selectionItems m) (writeItems (valuesItems p) v))
+    (label-kind l (writeItems selectionItems m ++ writeItems (valuesItems p) v) (o .0))
 
 -- what is written reads back
 groups-back : (pre : List ℕ) (k : ScreenAdditionalData) (p : Bool) (h m v : List (List ℕ)) → okItems headItems h ≡ true → okItems (moreItems k) m ≡ true
@@ -76,7 +77,8 @@ groups-back pre k p h m v g i j a =
     let s = pre ++ (hw ++ (mw ++ vw)) in
     let b : endOf headItems h (length pre) ≡ length (pre ++ hw) = rw (end-is headItems h (length pre)) (sym (length-append pre hw)) in
     let e : s ≡ (pre ++ hw) ++ (mw ++ vw) = sym (append-assoc pre hw (mw ++ vw)) in
-    let d : endOf (moreItems k) m (length (pre ++ hw)) ≡ length ((pre ++ hw) ++ mw) = rw (end-is (moreItems k) m (length (pre ++ hw))) (sym (length-append (pre ++ hw) mw)) in
+    let d : endOf (moreItems k) m (length (pre ++ hw)) ≡ length ((pre ++ hw) ++ mw) =
+    rw (end-is (moreItems k) m (length (pre ++ hw))) (sym (length-append (pre ++ hw) mw)) in
     let f : (pre ++ hw) ++ (mw ++ vw) ≡ ((pre ++ hw) ++ mw) ++ vw = sym (append-assoc (pre ++ hw) mw vw) in
     let q = items-back (valuesItems p) v ((pre ++ hw) ++ mw) [] (sound-values p .0) j in
     rw (
@@ -95,7 +97,11 @@ groups-back pre k p h m v g i j a =
 
 -- a popup's values in three groups
 pub groups : (k : ScreenAdditionalData) (p : Bool) (vs : List (List ℕ)) → okItems (popupItems k p) vs ≡ true
-    → (h : List (List ℕ)) × ((m : List (List ℕ)) × ((v : List (List ℕ)) × ((vs ≡ h ++ (m ++ v)) × ((okItems headItems h ≡ true) × ((okItems (moreItems k) m ≡ true) × (okItems (valuesItems p) v ≡ true))))))
+    → (h : List (List ℕ))
+    × ((m : List (List ℕ))
+    × ((v : List (List ℕ))
+    × ((vs ≡ h ++ (m ++ v))
+    × ((okItems headItems h ≡ true) × ((okItems (moreItems k) m ≡ true) × (okItems (valuesItems p) v ≡ true))))))
 groups k p vs o =
     let x = ok-split headItems (moreItems k ++ valuesItems p) vs o in
     let y = ok-split (moreItems k) (valuesItems p) (x .1 .0) (x .1 .1 .1 .1) in
@@ -105,7 +111,8 @@ pub groups-write : (k : ScreenAdditionalData) (p : Bool) (h m v : List (List ℕ
     → writeItems (popupItems k p) (h ++ (m ++ v)) ≡ writeItems headItems h ++ (writeItems (moreItems k) m ++ writeItems (valuesItems p) v)
 groups-write k p h m v g i = rw (write-join headItems (moreItems k ++ valuesItems p) h (m ++ v) g, write-join (moreItems k) (valuesItems p) m v i)
 
-back-by : (pre : List ℕ) (k : ScreenAdditionalData) (p : Bool) (vs h m v : List (List ℕ)) → vs ≡ h ++ (m ++ v) → okItems headItems h ≡ true → okItems (moreItems k) m ≡ true
+back-by : (pre : List ℕ) (k : ScreenAdditionalData) (p : Bool) (vs h m v : List (List ℕ)) → vs ≡ h ++ (m ++ v)
+    → okItems headItems h ≡ true → okItems (moreItems k) m ≡ true
     → okItems (valuesItems p) v ≡ true → alone k p ≡ false → readPopup (pre ++ writePopup (popup k p vs)) (length pre) ≡ got (popup k p vs)
 back-by pre k p vs h m v e g i j a = rw (e, groups-write k p h m v g i) (groups-back pre k p h m v g i j a)
 

@@ -83,7 +83,8 @@ selection-bytes f r =
 
 pub selection-put : (f : ScreenPopupFields) → Sized f → Ranged f → (f .«selection_text» .len ≤ 51) × (f .unit .len ≤ 51) → (s s1 s3 : List ℕ) (at a : ℕ)
     → s1 ≡ sets s at (bytesIn (f .«selection_text») ++ 0 ∷ []) → a ≡ at + (f .«selection_text» .len + 1)
-    → s3 ≡ sets (set (set (set (set s1 a (f .value)) (a + 1) (f .«min_value»)) (a + 2) (f .«max_value»)) (a + 3) (f .«default_value»)) (a + 4) (bytesIn (f .unit) ++ 0 ∷ [])
+    → s3 ≡ sets (set (set (set (set s1 a (f .value)) (a + 1) (f .«min_value»)) (a + 2) (f .«max_value»)) (a + 3)
+    (f .«default_value»)) (a + 4) (bytesIn (f .unit) ++ 0 ∷ [])
     → s3 ≡ sets s at (writeItems (moreItems Selection) (moreSays Selection f))
 selection-put f z r m s s1 s3 at a f1 g1 f3 =
     let n1 : a + 1 ≡ suc a = omega arith in

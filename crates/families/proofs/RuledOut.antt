@@ -1,6 +1,6 @@
 -- Wrong answers that the contracts of the public functions rule out: the definition that the contract names, worked out for an input
--- where the wrong answer would be another. That no other answer is allowed there is in OneAnswer.antt, OneAnswerText.antt and
--- OneAnswerScreen.antt. Assumes nothing.
+-- where the wrong answer would be another. That no other answer is allowed there is in OneAnswer.antt, OneAnswerText.antt,
+-- OneAnswerScreen.antt and OneAnswerLengths.antt. Assumes nothing.
 use Prim.Native.Nat.{ℕ}
 use mathlib.Core.Bool.{true, false}
 use mathlib.Core.List.{List, [], _∷_, _++_}
@@ -33,7 +33,7 @@ use Rattle.families.specs.declared.vtx.VtxCommand.the-variants.{SetFrequ
 use Rattle.families.specs.declared.led.LedColor.{LedColor}
 use Rattle.families.specs.declared.led.LedCommand.the-variants.{OverrideColor, OverridePulse}
 use Rattle.families.specs.declared.general.GeneralCommand.the-variants.{SpeedProposal, SpeedProposalResponse}
-use Rattle.families.specs.declared.crossfire.CrossfireCommand.the-variants.{ModelSelection, ReplyCurrentModelSelection}
+use Rattle.families.specs.declared.crossfire.CrossfireCommand.the-variants.{SetBindId, ModelSelection, ReplyCurrentModelSelection}
 use Rattle.families.specs.declared.flow_control.FlowControlCommand.the-variants.{Subscribe, Unsubscribe}
 use Rattle.families.specs.declared.ack.CommandAck.{CommandAck}
 use Rattle.families.specs.declared.screen.ScreenAdditionalData.the-variants.{Absent, Selection}
@@ -304,7 +304,8 @@ popup-unused = refl
 
 -- ---- screen::read
 -- bytes behind the last item are not stored
-pub rest-not-stored : ScreenIs (readScreen (0x01 ∷ 0 ∷ 0 ∷ 0 ∷ 0 ∷ 0 ∷ 0 ∷ 9 ∷ [])) (record { outcome = Accepted; command = PopupMessageStart; popup = popupOf (replicate 6 0) })
+pub rest-not-stored : ScreenIs (readScreen (0x01 ∷ 0 ∷ 0 ∷ 0 ∷ 0 ∷ 0 ∷ 0 ∷ 9 ∷ []))
+    (record { outcome = Accepted; command = PopupMessageStart; popup = popupOf (replicate 6 0) })
 unfolding readItem
 rest-not-stored = (refl, (refl, refl))
 
@@ -334,3 +335,38 @@ flow-id = refl
 -- an ACK has its own id, not that of what it answers
 pub ack-id : familyId (Ack (ackWith 0x08 2 1)) ≡ 0xFF
 ack-id = refl
+
+-- ---- written_len of each family
+-- the sub-command is counted
+pub fc-len : length (writeBody fcRows (fcSays ScaleChannel)) ≡ 1
+fc-len = refl
+
+pub osd-len : length (writeBody osdRows (osdSays (record { buttons = 5 }))) ≡ 2
+osd-len = refl
+
+-- the three values of a pit byte are one byte, those of a colour three
+pub pit-len : length (writeBody vtxRows (vtxSays (EnablePitModeOnPowerUp true 2 9))) ≡ 2
+pit-len = refl
+
+pub colour-len : length (writeBody ledRows (ledSays (OverrideColor (colour 1 2 3)))) ≡ 4
+colour-len = refl
+
+-- a response's flag is a byte, as its port is
+pub response-len : length (writeBody generalRows (generalSays (SpeedProposalResponse 1 true))) ≡ 3
+response-len = refl
+
+-- no model is counted where there is none
+pub bind-len : length (writeBody crossfireRows (crossfireSays SetBindId)) ≡ 1
+bind-len = refl
+
+-- nor an interval
+pub unsubscribe-len : length (writeBody flowRows (flowSays (Unsubscribe 9))) ≡ 2
+unsubscribe-len = refl
+
+-- stored bytes behind the popup's are not counted
+pub popup-len : length (screenBody PopupMessageStart (take 4 (replicate 55 0))) ≡ 5
+popup-len = refl
+
+-- nor behind an ACK's information
+pub ack-len : length (writeItems ackItems (ackSays (ackWith 1 2 1) (take 1 (0x41 ∷ 0x42 ∷ [])))) ≡ 5
+ack-len = refl

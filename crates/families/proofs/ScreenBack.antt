@@ -31,7 +31,8 @@ use Rattle.families.proofs.PopupLaws.{popup-back, popup-forth}
 start-by : (w : List ℕ) (q : Popup) → readPopup (1 ∷ w) 1 ≡ got q → fitted q ≡ got q → readScreen (1 ∷ w) ≡ got (started q)
 start-by w q e f =
     let b = item-back byte (1 ∷ []) w refl refl in
-    rw b (ap (λ (a : Answer Popup). andThen a (λ q. andThen (fitted q) (λ p. got (started p)))) e ∙ ap (λ (a : Answer Popup). andThen a (λ p. got (started p))) f)
+    rw b (ap (λ (a : Answer Popup). andThen a (λ q. andThen (fitted q) (λ p. got (started p)))) e
+    ∙ ap (λ (a : Answer Popup). andThen a (λ p. got (started p))) f)
 
 fit : (q : Popup) → length (writePopup q) ≤ 55 → fitted q ≡ got q
 fit q h = rw (le-leb (length (writePopup q)) 55 h)
@@ -104,7 +105,8 @@ Way s sub (started q) = sub ≡ 0x01
 Way s sub (returned b) = readRow screenRows s sub ≡ got b
 
 way-of : (s : List ℕ) (sub : ℕ) (q : ScreenSaid) (t : Bool) → eqb sub 0x01 ≡ t
-    → pick t (andThen (readPopup s 1) (λ r. andThen (fitted r) (λ p. got (started p)))) (andThen (readRow screenRows s sub) (λ d. got (returned d))) ≡ got q → Way s sub q
+    → pick t (andThen (readPopup s 1) (λ r. andThen (fitted r) (λ p. got (started p))))
+    (andThen (readRow screenRows s sub) (λ d. got (returned d))) ≡ got q → Way s sub q
 way-of s sub (started q) true e h = eqb-true sub 0x01 e
 way-of s sub (returned b) true e h =
     let x = and-got (readPopup s 1) (λ r. andThen (fitted r) (λ p. got (started p))) (returned b) h in

@@ -3,6 +3,7 @@ use Prim.Native.Nat.{ℕ, _+_, _-_, _<_, _≤_}
 use mathlib.Core.Bool.{Bool, true, false}
 use mathlib.Core.List.{List, [], _∷_, _++_}
 use mathlib.Core.Path.{_≡_, refl, ap, sym, _∙_}
+use native.Mathlib.Nat.{div-one, mod-eq-of-lt}
 use native.Mathlib.Omega.{arith}
 use native.Mathlib.Numerals.{add-one}
 use lib.ListN.{length, take, drop, drop-of-length-le}
@@ -12,10 +13,9 @@ use borrow.Author.Tests.{le-leb, lt-leb, eq-eqb, ne-eqb}
 use Rattle.crc.specs.Check.{Bytes}
 use Rattle.codec.specs.Pick.{pick}
 use Rattle.codec.specs.Sheet.{Answer, got, refused, andThen, said, byte}
-use Rattle.codec.specs.Digits.{bytesOf}
-use Rattle.codec.specs.Writing.{stopRoom, putAt, writeBody}
+use Rattle.codec.specs.Writing.{putAt, writeBody}
 use Rattle.codec.specs.Refusals.{refusalNumber, outcomeNumber}
-use Rattle.codec.specs.Told.{bit, Writes}
+use Rattle.codec.specs.Told.{bit, WritesAll}
 use Rattle.codec.specs.declared.refusal.Refusal.{Refusal}
 use Rattle.codec.specs.declared.refusal.Refusal.the-variants.{BufferOverflow}
 use Rattle.codec.specs.declared.refusal.Outcome.the-variants.{Accepted}
@@ -54,7 +54,8 @@ places-from s at p r e h =
     let b : PlacesIn s at p = rw e at (h .1) in
     (sym a, (places-end s at p b, b))
 
-pub places-refused : (s : List ℕ) (at : ℕ) (k : Refusal) (r : PopupRead) → r ≡ Refused k → toldPlaces s r ≡ readPopup s at → readPopup s at ≡ refused (refusalNumber k) 0
+pub places-refused : (s : List ℕ) (at : ℕ) (k : Refusal) (r : PopupRead) → r ≡ Refused k → toldPlaces s r ≡ readPopup s
+    at → readPopup s at ≡ refused (refusalNumber k) 0
 places-refused s at k r e h = sym (rw e at h)
 
 -- ---- reading
@@ -71,7 +72,8 @@ pub is-by : (a b : Answer ScreenSaid) (r : ScreenAnswer) → a ≡ b → ScreenI
 is-by a b r e h = rw e h
 
 -- what was read is what would be written: the bytes are stored as they are
-pub screen-popup : (s : List ℕ) (n : ℕ) (q : Popup) (r : ScreenAnswer) → Bytes s → readPopup s 0 ≡ got q → 0 + length (writePopup q) ≡ n → StoredIs n (take n s) r → ScreenIs (startedBy (readPopup s 0)) r
+pub screen-popup : (s : List ℕ) (n : ℕ) (q : Popup) (r : ScreenAnswer) → Bytes s → readPopup s 0 ≡ got q
+    → 0 + length (writePopup q) ≡ n → StoredIs n (take n s) r → ScreenIs (startedBy (readPopup s 0)) r
 screen-popup s n q r y f g h =
     let w = popup-forth s 0 q y (omega arith) f in
     let l : n ≡ length (writePopup q) = omega arith in
@@ -92,26 +94,26 @@ bit-is true = refl
 bit-is false = refl
 
 -- ---- writing
-pub popup-written : (s t s1 s2 : List ℕ) → length t < length s → s1 ≡ putAt s 0 (bytesOf 1 1) → s2 ≡ putAt s1 1 t
-    → Writes (stopRoom (length s) (length (1 ∷ t))) (1 ∷ t) (Count (length t + 1)) s s2
+pub popup-written : (s t s1 s2 : List ℕ) → length t < length s → s1 ≡ putAt s 0 (1 ∷ []) → s2 ≡ putAt s1 1 t
+    → WritesAll (1 ∷ t) (Count (length t + 1)) s s2
 popup-written s t s1 s2 h e f =
     let p = put-start s s1 (1 ∷ []) (omega arith) e in
     let q = put-on s s1 s2 (1 ∷ []) t 1 p f refl (omega arith) in
     rw (add-one (length t)) (writes-room s (1 ∷ t) s2 (omega arith) q)
 
-pub popup-unwritten : (s t : List ℕ) → length s ≤ length t → Writes (stopRoom (length s) (length (1 ∷ t))) (1 ∷ t) (RefusedWrite BufferOverflow) s s
+pub popup-unwritten : (s t : List ℕ) → length s ≤ length t → WritesAll (1 ∷ t) (RefusedWrite BufferOverflow) s s
 popup-unwritten s t h = writes-none s (1 ∷ t) (omega arith)
 
-pub return-written : (s s1 s2 s3 : List ℕ) (v b : ℕ) → 3 ≤ length s → s1 ≡ putAt s 0 (bytesOf 1 2) → s2 ≡ putAt s1 1 (bytesOf 1 v) → s3 ≡ putAt s2 2 (bytesOf 1 b)
-    → Writes (stopRoom (length s) 3) (writeBody screenRows (said 2 ((v ∷ []) ∷ (b ∷ []) ∷ []))) (Count 3) s s3
-return-written s s1 s2 s3 v b h e f g =
+pub return-written : (s s1 s2 s3 : List ℕ) (v b : ℕ) → v < 256 → b < 256 → 3 ≤ length s → s1 ≡ putAt s 0 (2 ∷ []) → s2 ≡ putAt s1 1 (v ∷ [])
+    → s3 ≡ putAt s2 2 (b ∷ []) → WritesAll (writeBody screenRows (said 2 ((v ∷ []) ∷ (b ∷ []) ∷ []))) (Count 3) s s3
+return-written s s1 s2 s3 v b l m h e f g =
     let p = put-start s s1 (2 ∷ []) (omega arith) e in
-    let q = put-on s s1 s2 (2 ∷ []) (bytesOf 1 v) 1 p f refl (omega arith) in
-    let r = put-on s s2 s3 (2 ∷ bytesOf 1 v) (bytesOf 1 b) 2 q g refl (omega arith) in
-    rw (alone v, alone b) (writes-room s (2 ∷ bytesOf 1 v ++ bytesOf 1 b) s3 h r)
+    let q = put-on s s1 s2 (2 ∷ []) (v ∷ []) 1 p f refl (omega arith) in
+    let r = put-on s s2 s3 (2 ∷ v ∷ []) (b ∷ []) 2 q g refl (omega arith) in
+    rw (alone v, alone b, div-one v, mod-eq-of-lt l, div-one b, mod-eq-of-lt m) (writes-room s (2 ∷ v ∷ b ∷ []) s3 h r)
 
 pub return-unwritten : (s : List ℕ) (v b : ℕ) → length s < 3
-    → Writes (stopRoom (length s) 3) (writeBody screenRows (said 2 ((v ∷ []) ∷ (b ∷ []) ∷ []))) (RefusedWrite BufferOverflow) s s
+    → WritesAll (writeBody screenRows (said 2 ((v ∷ []) ∷ (b ∷ []) ∷ []))) (RefusedWrite BufferOverflow) s s
 return-unwritten s v b h = writes-none s (writeBody screenRows (said 2 ((v ∷ []) ∷ (b ∷ []) ∷ []))) h
 
 -- ---- inspection
@@ -146,7 +148,8 @@ pub whole-not : (s : List ℕ) (m n k : ℕ) → readPopup s 0 ≡ refused n k �
 whole-not s m n k e = sym (ap (λ (a : Answer Popup). isGot (whole m a)) e)
 
 -- ---- the fields at their places
-abbrev pub fieldsWith : Head → ScreenAdditionalData → Bool → More → CommandString → CommandString → CommandString → CommandString → CommandString → ScreenPopupFields
+abbrev pub fieldsWith : Head → ScreenAdditionalData → Bool → More → CommandString → CommandString → CommandString
+    → CommandString → CommandString → ScreenPopupFields
 fieldsWith h k q m header info label unit values = record {
   header = header;
   info = info;
@@ -165,7 +168,8 @@ fieldsWith h k q m header info label unit values = record {
 
 abbrev fieldsAt : List ℕ → Head → ScreenAdditionalData → Bool → More → Values → ScreenPopupFields
 fieldsAt s h k q m v =
-    fieldsWith h k q m (textOf (spanned s (h .header))) (textOf (spanned s (h .info))) (textOf (spanned s (m .label))) (textOf (spanned s (m .unit))) (textOf (spanned s (v .text)))
+    fieldsWith h k q m (textOf (spanned s (h .header))) (textOf (spanned s (h .info))) (textOf (spanned s (m .label)))
+    (textOf (spanned s (m .unit))) (textOf (spanned s (v .text)))
 
 fields-by : (s : List ℕ) (a b : ℕ) (h : Head) (k : ScreenAdditionalData) (q : Bool) (m : More) (v : Values) → MoreIs k a m → ValuesIs q b v
     → fieldsAt s h k q m v ≡ fieldsOf (popup k q (headAt s h ++ (moreBy k s m ++ valuesBy q s v)))
@@ -181,17 +185,20 @@ pub fields-is : (s : List ℕ) (at : ℕ) (p : Places) (header info label unit v
     → unit ≡ textOf (spanned s (p .more .unit)) → values ≡ textOf (spanned s (p .values .text))
     → fieldsWith (p .head) (p .more .kind) (p .values .present) (p .more) header info label unit values ≡ fieldsOf (popupAt s p)
 fields-is s at p header info label unit values x a b c d e =
-    rw (a, b, c, d, e) (fields-by s (p .head .next) (p .more .next) (p .head) (p .more .kind) (p .values .present) (p .more) (p .values) (x .1 .0 .1 .0) (x .1 .1 .1 .0))
+    rw (a, b, c, d, e) (fields-by s (p .head .next) (p .more .next) (p .head) (p .more .kind) (p .values .present)
+    (p .more) (p .values) (x .1 .0 .1 .0) (x .1 .1 .1 .0))
 
 pub fields-of : (a b : Answer ScreenPopupFields) (r : FieldsAnswer) → a ≡ b → FieldsIs b r → FieldsIs a r
 fields-of a b r e h = rw e h
 
-pub whole-there : (s : List ℕ) (n : ℕ) (q : Popup) → readPopup s 0 ≡ got q → 0 + length (writePopup q) ≡ n → n ≡ length s → whole (length s) (readPopup s 0) ≡ got (fieldsOf q)
+pub whole-there : (s : List ℕ) (n : ℕ) (q : Popup) → readPopup s 0 ≡ got q → 0 + length (writePopup q) ≡ n
+    → n ≡ length s → whole (length s) (readPopup s 0) ≡ got (fieldsOf q)
 whole-there s n q e f g =
     let l : length (writePopup q) ≡ length s = omega arith in
     ap (λ (a : Answer Popup). whole (length s) a) e ∙ rw (eq-eqb (length (writePopup q)) (length s) l)
 
-pub whole-less : (s : List ℕ) (n : ℕ) (q : Popup) → readPopup s 0 ≡ got q → 0 + length (writePopup q) ≡ n → (n ≡ length s → ⊥) → whole (length s) (readPopup s 0) ≡ refused 5 0
+pub whole-less : (s : List ℕ) (n : ℕ) (q : Popup) → readPopup s 0 ≡ got q → 0 + length (writePopup q) ≡ n
+    → (n ≡ length s → ⊥) → whole (length s) (readPopup s 0) ≡ refused 5 0
 whole-less s n q e f g =
     let l : length (writePopup q) ≡ n = omega arith in
     ap (λ (a : Answer Popup). whole (length s) a) e ∙ rw (l, ne-eqb n (length s) g)

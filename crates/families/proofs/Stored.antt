@@ -57,7 +57,8 @@ drop-zeros (suc k) (suc m) = rw suc-sub-suc (drop-zeros k m)
 
 -- a part that is copied over zeros
 pub copied : (s : List ℕ) (at n m : ℕ) → at + n ≤ length s →
-    take (length (take (at + n - at) (drop at s))) (take (at + n - at) (drop at s)) ++ drop (length (take (at + n - at) (drop at s))) (replicate m 0) ≡ padded m (take n (drop at s))
+    take (length (take (at + n - at) (drop at s))) (take (at + n - at) (drop at s)) ++ drop
+    (length (take (at + n - at) (drop at s))) (replicate m 0) ≡ padded m (take n (drop at s))
 copied s at n m h = rw (add-sub-cancel-left at n, take-length, drop-zeros)
 
 -- the same as a text: its length is that of its bytes

@@ -10,6 +10,8 @@ use Rattle.codec.specs.Sheet.{Answer, got, refused, andThen, Item, text, byte, 
 use Rattle.codec.specs.Reading.{readItems}
 use Rattle.codec.specs.Writing.{nonzero, okItem, writeItems, stopRoom}
 use Rattle.codec.specs.Refusals.{outcomeNumber, numberIn, valueIn}
+use Rattle.codec.specs.Told.{Writes}
+use Rattle.codec.specs.declared.writer.Written.{Written}
 use Rattle.families.specs.Text.{padded, madeBytes}
 use Rattle.families.specs.declared.ack.CommandAck.{CommandAck}
 use Rattle.families.specs.declared.ack.AckAnswer.{AckAnswer}
@@ -56,6 +58,10 @@ AckIs a r =
     (outcomeNumber (r .outcome) ≡ numberIn a)
     × ((r .ack ≡ ackOf (valueIn blankAck a))
     × ((r .len ≡ length (getD (valueIn blankAck a) 3 [])) × (r .bytes ≡ padded 55 (getD (valueIn blankAck a) 3 []))))
+
+-- WRITING an ACK with its information answers r and leaves s' of s
+abbrev pub WritesAck : CommandAck → List ℕ → Written → List ℕ → List ℕ → Type 0
+WritesAck a t r s s' = Writes (stopAck (length s) (ackSays a t)) (writeItems ackItems (ackSays a t)) r s s'
 
 -- "An ACK's action is outside this and is judged on writing."
 abbrev pub madeInformation : ℕ → List ℕ → Bool

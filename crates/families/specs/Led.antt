@@ -1,12 +1,12 @@
 -- 0x09 LED: what a colour and each command say, and what a reading tells. Assumes nothing.
-use Prim.Native.Nat.{ℕ}
-use mathlib.Core.List.{List, [], _∷_}
+use Prim.Native.Nat.{ℕ, _+_}
+use mathlib.Core.List.{List, [], _∷_, _++_}
 use lib.ListN.{getD}
-use lib.Dec.{eqb}
+use lib.Dec.{eqb, ltb}
 use Rattle.codec.specs.Pick.{pick}
 use Rattle.codec.specs.Sheet.{Answer, got, refused, Said, said, itemNumber}
-use Rattle.codec.specs.Digits.{split}
-use Rattle.codec.specs.Writing.{okItem}
+use Rattle.codec.specs.Digits.{split, bytesOf}
+use Rattle.codec.specs.Writing.{okItem, itemBytes, stopRoom}
 use Rattle.codec.specs.Refusals.{refusalNumber}
 use Rattle.codec.specs.declared.reader.NumberRead.{NumberRead}
 use Rattle.codec.specs.declared.reader.NumberRead.the-variants.{Got as GotNumber, Refused as RefusedNumber}
@@ -61,3 +61,15 @@ colorTold (RefusedNumber r) = refused (refusalNumber r) 0
 abbrev pub toldFade : FadeRead → Answer (List (List ℕ))
 toldFade (GotFade f) = got ((f .time ∷ []) ∷ colorSays (f .start) ∷ colorSays (f .stop) ∷ [])
 toldFade (RefusedFade r) = refused (refusalNumber r) 0
+
+-- what a pulse or a blink says, by its sub-command
+abbrev pub fadeSays : ℕ → ℕ → LedColor → LedColor → Said
+fadeSays sub time start stop = said sub ((time ∷ []) ∷ colorSays start ∷ colorSays stop ∷ [])
+
+-- the number that stops writing up to the first colour, which stands behind so many bytes; 0: none
+abbrev pub stopFirst : ℕ → ℕ → List ℕ → ℕ
+stopFirst before room v = pick (ltb room before) 3 (pick (okItem colour v) (stopRoom room (before + 3)) 2)
+
+-- sub-command, time and first colour
+abbrev pub timedBytes : ℕ → ℕ → List ℕ → List ℕ
+timedBytes sub time v = sub ∷ (bytesOf 2 time ++ itemBytes colour v)

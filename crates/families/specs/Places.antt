@@ -10,7 +10,7 @@ use Rattle.codec.specs.Pick.{pick}
 use Rattle.codec.specs.Sheet.{Answer, got, refused}
 use Rattle.codec.specs.Refusals.{refusalNumber, outcomeNumber}
 use Rattle.codec.specs.Told.{bit, toldText, textIn}
-use Rattle.codec.specs.Reading.{readItem}
+use Rattle.codec.specs.Reading.{readItem, readItems}
 use Rattle.families.specs.Sheets.{textItem}
 use Rattle.codec.specs.declared.reader.NumberRead.{NumberRead}
 use Rattle.codec.specs.declared.reader.NumberRead.the-variants.{Got as GotNumber, Refused as RefusedNumber}
@@ -18,7 +18,7 @@ use Rattle.codec.specs.declared.reader.FlagRead.{FlagRead}
 use Rattle.codec.specs.declared.reader.FlagRead.the-variants.{Got as GotFlag, Refused as RefusedFlag}
 use Rattle.codec.specs.declared.reader.TextRead.{TextRead}
 use Rattle.codec.specs.declared.reader.TextRead.the-variants.{Got as GotText, Refused as RefusedText}
-use Rattle.families.specs.Popup.{Popup, popup, additionalOf, remains}
+use Rattle.families.specs.Popup.{Popup, popup, headItems, selectionItems, moreItems, valuesItems, additionalOf, remains, readPopup}
 use Rattle.families.specs.Fields.{popupOf}
 use Rattle.families.specs.declared.screen.ScreenAdditionalData.{ScreenAdditionalData}
 use Rattle.families.specs.declared.screen.ScreenAdditionalData.the-variants.{Absent, Empty, Selection}
@@ -78,6 +78,10 @@ headBy (GotText h p) (GotText i q) (RefusedNumber r) c = RefusedHead r
 headBy (GotText h p) (RefusedText r) t c = RefusedHead r
 headBy (RefusedText r) i t c = RefusedHead r
 
+-- the head at the front of s, read as its items
+abbrev pub ReadsHead : List ℕ → HeadRead → Type 0
+ReadsHead s r = (toldHead s r ≡ readItems headItems s 0) × headIn s 0 r
+
 abbrev pub short : TextRead → Type 0
 short (GotText n next) = next ≤ 52
 short (RefusedText r) = Unit {0}
@@ -104,6 +108,9 @@ toldSelected s (RefusedSelected r) = refused (refusalNumber r) 0
 abbrev pub selectedIn : List ℕ → SelectedRead → Type 0
 selectedIn s (GotSelected x) = (x .label + 5 + x .unit < length s) × ((x .label ≤ 51) × (x .unit ≤ 51))
 selectedIn s (RefusedSelected r) = Unit {0}
+
+abbrev pub ReadsSelected : List ℕ → SelectedRead → Type 0
+ReadsSelected s r = (toldSelected s r ≡ readItems (textItem ∷ selectionItems) s 0) × selectedIn s r
 
 abbrev pub moreBy : ScreenAdditionalData → List ℕ → More → List (List ℕ)
 moreBy Absent s m = []
@@ -132,6 +139,10 @@ MoreIn s at m =
 abbrev pub moreIn : List ℕ → ℕ → MoreRead → Type 0
 moreIn s at (GotMore m) = MoreIn s at m
 moreIn s at (RefusedMore r) = Unit {0}
+
+-- additional data at a place: it "is present when bytes remain"
+abbrev pub ReadsMore : List ℕ → ℕ → MoreRead → Type 0
+ReadsMore s at r = (toldMore s r ≡ readItems (moreItems (additionalOf (drop at s))) s at) × moreIn s at r
 
 -- POSSIBLE VALUES
 abbrev pub valuesBy : Bool → List ℕ → Values → List (List ℕ)
@@ -163,6 +174,9 @@ abbrev pub valuesIn : List ℕ → ℕ → ValuesRead → Type 0
 valuesIn s at (GotValues v) = ValuesIn s at v
 valuesIn s at (RefusedValues r) = Unit {0}
 
+abbrev pub ReadsValues : List ℕ → ℕ → ValuesRead → Type 0
+ReadsValues s at r = (toldValues s r ≡ readItems (valuesItems (remains (drop at s))) s at) × valuesIn s at r
+
 -- THE POPUP
 abbrev pub popupAt : List ℕ → Places → Popup
 popupAt s p =
@@ -180,6 +194,9 @@ PlacesIn s at p =
 abbrev pub placesIn : List ℕ → ℕ → PopupRead → Type 0
 placesIn s at (Got p) = PlacesIn s at p
 placesIn s at (Refused r) = Unit {0}
+
+abbrev pub ReadsPlaces : List ℕ → PopupRead → Type 0
+ReadsPlaces s r = (toldPlaces s r ≡ readPopup s 0) × placesIn s 0 r
 
 -- n bytes w, stored as a popup's, if there are at most 55
 abbrev pub StoredIs : ℕ → List ℕ → ScreenAnswer → Type 0

@@ -6,15 +6,23 @@ ghost use lib.Seq.{sets};
 ghost use Rattle.codec.specs.Refusals.{refusalNumber};
 ghost use Rattle.codec.specs.Sheet.{got, refused};
 ghost use Rattle.codec.specs.Writing.{writeItems};
-ghost use Rattle.codec.specs.Told.{Writes};
-ghost use Rattle.families.specs.Ack.{ackItems, readAck, ackWith, ackSays, stopAck, newAck, AckIs, madeInformation};
+ghost use Rattle.families.specs.Ack.{ackItems, readAck, ackWith, ackSays, WritesAck, newAck, AckIs, madeInformation};
 use codec::reader::TextRead;
+use codec::reader::read_text;
 use codec::refusal::Outcome;
 use codec::refusal::Refusal;
 use codec::writer::Written;
+use codec::writer::put_bytes;
+use codec::writer::values_first;
 
 // "information up to 52 bytes"
 pub(crate) const MAX_ACK_INFORMATION_LEN: usize = 52;
+
+// Behind command id, sub id and action.
+const INFORMATION_AT: usize = 3;
+
+// These three, and the 00 behind the information.
+const LEN_WITHOUT_INFORMATION: usize = 4;
 
 // The information stands beside it.
 pub struct CommandAck {
@@ -62,12 +70,12 @@ fn accepted(
     AckAnswer {
         outcome: Outcome::Accepted,
         ack: CommandAck {
-            command_id: command_id,
-            sub_command_id: sub_command_id,
-            action: action,
+            command_id,
+            sub_command_id,
+            action,
         },
         len: n,
-        bytes: bytes,
+        bytes,
     }
 }
 
@@ -100,39 +108,43 @@ impl CommandAck {
 pub fn read(body: &[u8]) -> AckAnswer
     ensures { λ r. ⌜ AckIs (readAck (now (body .entry))) r ⌝ }
 {
-    if body.len() < 3 {
+    if body.len() < INFORMATION_AT {
         return refused_with(Refusal::InvalidPayloadLength);
     }
-    match codec::reader::read_text(body, 3, MAX_ACK_INFORMATION_LEN) {
-        TextRead::Got { len, next } => {
+    match read_text(body, INFORMATION_AT, MAX_ACK_INFORMATION_LEN) {
+        TextRead::Got { len, next: _ } => {
             if 1 < body[2] {
                 return refused_with(Refusal::InvalidPayload);
             }
-            accepted(body[0], body[1], body[2], body, 3, len)
+            accepted(body[0], body[1], body[2], body, INFORMATION_AT, len)
         }
         TextRead::Refused(r) => refused_with(r),
     }
 }
 
 // The ACK and its information, into a body that has room for them.
-fn put(ack: CommandAck, t: &[u8], body: &mut [u8])
-    requires { ⌜ length (now t) + 4 ≤ length (now body) ⌝ }
-    ensures { λ r. ⌜ now (body .exit) ≡ sets (now (body .entry)) 0 (writeItems ackItems (ackSays ack (now (t .entry)))) ⌝ }
+fn put(ack: CommandAck, information: &[u8], body: &mut [u8])
+    requires { ⌜ length (now information) + 4 ≤ length (now body) ⌝ }
+    ensures { λ r. ⌜ now (body .exit) ≡ sets (now (body .entry)) 0 (writeItems ackItems (ackSays ack (now (information .entry)))) ⌝ }
 {
     body[0] = ack.command_id;
     body[1] = ack.sub_command_id;
     body[2] = ack.action;
-    codec::writer::put_bytes(body, 3, t);
-    body[3 + t.len()] = 0;
+    put_bytes(body, INFORMATION_AT, information);
+    body[INFORMATION_AT + information.len()] = 0;
 }
 
 // The same, "values first (2), then .. room (3)".
-fn write_all(ack: CommandAck, t: &[u8], body: &mut [u8]) -> Written
-    ensures { λ r. ⌜ Writes (stopAck (length (now (body .entry))) (ackSays ack (now (t .entry)))) (writeItems ackItems (ackSays ack (now (t .entry)))) r (now (body .entry)) (now (body .exit)) ⌝ }
+fn write_all(ack: CommandAck, information: &[u8], body: &mut [u8]) -> Written
+    ensures { λ r. ⌜ WritesAck ack (now (information .entry)) r (now (body .entry)) (now (body .exit)) ⌝ }
 {
-    match codec::writer::values_first(ack.action <= 1, body.len(), t.len() + 4) {
+    match values_first(
+        ack.action <= 1,
+        body.len(),
+        information.len() + LEN_WITHOUT_INFORMATION,
+    ) {
         Written::Count(n) => {
-            put(ack, t, body);
+            put(ack, information, body);
             Written::Count(n)
         }
         Written::Refused(r) => Written::Refused(r),
@@ -141,7 +153,7 @@ fn write_all(ack: CommandAck, t: &[u8], body: &mut [u8]) -> Written
 
 // The information is the first len of the bytes; where there are fewer, all of them.
 pub fn write_to(ack: CommandAck, bytes: &[u8], len: usize, body: &mut [u8]) -> Written
-    ensures { λ r. ⌜ Writes (stopAck (length (now (body .entry))) (ackSays ack (take len (now (bytes .entry))))) (writeItems ackItems (ackSays ack (take len (now (bytes .entry))))) r (now (body .entry)) (now (body .exit)) ⌝ }
+    ensures { λ r. ⌜ WritesAck ack (take len (now (bytes .entry))) r (now (body .entry)) (now (body .exit)) ⌝ }
 {
     if len < bytes.len() {
         write_all(ack, &bytes[..len], body)
@@ -155,4 +167,12 @@ pub fn made(bytes: &[u8], len: usize) -> bool
     ensures { λ r. ⌜ r ≡ madeInformation len (now (bytes .entry)) ⌝ }
 {
     crate::text::made_bytes(bytes, len, MAX_ACK_INFORMATION_LEN)
+}
+
+// How many bytes `write_to` writes, counted and not written.
+pub fn written_len(ack: CommandAck, bytes: &[u8], len: usize) -> usize
+    ensures { λ r. ⌜ r ≡ length (writeItems ackItems (ackSays ack (take len (now (bytes .entry))))) ⌝ }
+    ensures { λ r. ⌜ r ≤ length (now (bytes .entry)) + 9 ⌝ }
+{
+    crate::text::stored_len(bytes, len) + LEN_WITHOUT_INFORMATION
 }

@@ -4,17 +4,12 @@ ghost use mathlib.Core.Bool.{true};
 ghost use mathlib.Core.List.{_++_, _∷_, []};
 ghost use Prim.Native.Nat.{_+_, _≤_, _<_};
 ghost use lib.ListN.{length};
-ghost use lib.Dec.{ltb, eqb};
-ghost use lib.Seq.{sets};
 ghost use Rattle.codec.specs.Pick.{pick};
 ghost use Rattle.codec.specs.Sheet.{got};
-ghost use Rattle.codec.specs.Writing.{writeItems};
 ghost use Rattle.codec.specs.Refusals.{outcomeNumber, numberIn};
-ghost use Rattle.codec.specs.Told.{bit};
 ghost use Rattle.families.specs.Text.{bytesIn};
-ghost use Rattle.families.specs.Popup.{headItems, moreItems, valuesItems, writePopup};
-ghost use Rattle.families.specs.Fields.{moreSays, valuesSays, popupSays, madeMore, madeValues, madeTexts, construct};
-ghost use Rattle.families.specs.Sizes.{over, stopSizes, moreSize};
+ghost use Rattle.families.specs.Fields.{madeMore, madeValues, madeTexts, construct};
+ghost use Rattle.families.specs.Sizes.{over, stopSelection, stopSizes, SizesFit, SelectionFits, MoreFits, ValuesFit, moreSize, valuesSize, Puts, PutsHead, PutsMore, PutsValues, PutsPopup};
 use crate::screen::MAX_POPUP_DATA_LEN;
 use crate::screen::ScreenAdditionalData;
 use crate::screen::ScreenPopup;
@@ -22,210 +17,232 @@ use crate::screen::ScreenPopupFields;
 use crate::text::CommandString;
 use codec::refusal::Outcome;
 use codec::refusal::Refusal;
+use codec::writer::bit_of;
+use codec::writer::put_bytes;
 
-fn more_made(f: ScreenPopupFields) -> bool
-    ensures { λ r. ⌜ r ≡ madeMore (f .«additional_data») f ⌝ }
+fn more_made(fields: ScreenPopupFields) -> bool
+    ensures { λ r. ⌜ r ≡ madeMore (fields .«additional_data») fields ⌝ }
 {
-    let k = f.additional_data;
-    match k {
+    let kind = fields.additional_data;
+    match kind {
         ScreenAdditionalData::Absent => true,
         ScreenAdditionalData::Empty => true,
         ScreenAdditionalData::Selection => {
-            let l = f.selection_text;
-            if l.made() {
-                let u = f.unit;
-                return u.made();
+            let label = fields.selection_text;
+            if !label.made() {
+                return false;
             }
-            false
+            let unit = fields.unit;
+            unit.made()
         }
     }
 }
 
-fn values_made(f: ScreenPopupFields) -> bool
-    ensures { λ r. ⌜ r ≡ madeValues (f .«has_possible_values») f ⌝ }
+fn values_made(fields: ScreenPopupFields) -> bool
+    ensures { λ r. ⌜ r ≡ madeValues (fields .«has_possible_values») fields ⌝ }
 {
-    if f.has_possible_values {
-        let v = f.possible_values;
-        return v.made();
+    if !fields.has_possible_values {
+        return true;
     }
-    true
+    let values = fields.possible_values;
+    values.made()
 }
 
 // Every text that is present is made.
-fn texts_made(f: ScreenPopupFields) -> bool
-    ensures { λ r. ⌜ r ≡ madeTexts f ⌝ }
+fn texts_made(fields: ScreenPopupFields) -> bool
+    ensures { λ r. ⌜ r ≡ madeTexts fields ⌝ }
 {
-    let h = f.header;
-    if h.made() {
-        let i = f.info;
-        if i.made() {
-            if more_made(f) {
-                return values_made(f);
-            }
-        }
+    let header = fields.header;
+    if !header.made() {
+        return false;
     }
-    false
+    let info = fields.info;
+    if !info.made() {
+        return false;
+    }
+    if !more_made(fields) {
+        return false;
+    }
+    values_made(fields)
 }
 
-// 1 unless n bytes have room.
-fn room(n: usize) -> Outcome
-    ensures { λ r. ⌜ outcomeNumber r ≡ over n ⌝ }
+// 1 unless so many bytes have room.
+fn room(size: usize) -> Outcome
+    ensures { λ r. ⌜ outcomeNumber r ≡ over size ⌝ }
 {
-    if MAX_POPUP_DATA_LEN < n {
+    if MAX_POPUP_DATA_LEN < size {
         Outcome::Refused(Refusal::InvalidPayloadLength)
     } else {
         Outcome::Accepted
     }
 }
 
-fn values_size(p: bool, n: usize) -> usize
-    requires { ⌜ (p ≡ true → n ≤ 51) ⌝ }
-    ensures { λ r. ⌜ (r ≡ pick p (n + 1) 0) × (r ≤ 52) ⌝ }
+// Possible values are a text and its 00, where they are present.
+fn values_size(present: bool, len: usize) -> usize
+    requires { ⌜ (present ≡ true → len ≤ 51) ⌝ }
+    ensures { λ r. ⌜ (r ≡ pick present (len + 1) 0) × (r ≤ 52) ⌝ }
 {
-    if p { n + 1 } else { 0 }
+    if present { len + 1 } else { 0 }
 }
 
-// A selection: its label stops at its turn, before its own room.
-fn judge_selection(head: usize, l: usize, u: usize, rest: usize) -> Outcome
-    requires { ⌜ ((head ≤ 106) × (l ≤ 51)) × ((u ≤ 51) × (rest ≤ 52)) ⌝ }
-    ensures { λ r. ⌜ outcomeNumber r ≡ pick (eqb l 0) (pick (ltb 55 head) 1 2) (over (head + (l + u + 6) + rest)) ⌝ }
+// A head is two texts, each with its 00, the timeout and the close flag; a selection two texts likewise and four numbers.
+const HEAD_LEN: usize = 4;
+
+const SELECTION_LEN: usize = 6;
+
+const EMPTY_LEN: usize = 1;
+
+// A selection: an empty label stops at its turn, before its own room.
+fn judge_selection(head: usize, label: usize, unit: usize, values: usize) -> Outcome
+    requires { ⌜ ((head ≤ 106) × (label ≤ 51)) × ((unit ≤ 51) × (values ≤ 52)) ⌝ }
+    ensures { λ r. ⌜ outcomeNumber r ≡ stopSelection head label unit values ⌝ }
 {
-    if l == 0 {
+    if label == 0 {
         if MAX_POPUP_DATA_LEN < head {
             return Outcome::Refused(Refusal::InvalidPayloadLength);
         }
         return Outcome::Refused(Refusal::InvalidPayload);
     }
-    room(head + (l + u + 6) + rest)
+    room(head + (label + unit + SELECTION_LEN) + values)
 }
 
 // Sizes judged: the bytes of the head; lengths of label, unit and possible values.
 fn judge_sizes(
     head: usize,
-    k: ScreenAdditionalData,
-    l: usize,
-    u: usize,
-    p: bool,
-    v: usize,
+    kind: ScreenAdditionalData,
+    label: usize,
+    unit: usize,
+    present: bool,
+    values: usize,
 ) -> Outcome
-    requires { ⌜ (head ≤ 106) × ((k ≡ ScreenAdditionalData.Selection → (l ≤ 51) × (u ≤ 51)) × (p ≡ true → v ≤ 51)) ⌝ }
-    ensures { λ r. ⌜ outcomeNumber r ≡ stopSizes head k l u p v ⌝ }
+    requires { ⌜ SizesFit head kind label unit present values ⌝ }
+    ensures { λ r. ⌜ outcomeNumber r ≡ stopSizes head kind label unit present values ⌝ }
 {
-    let rest = values_size(p, v);
-    match k {
+    let values = values_size(present, values);
+    match kind {
         ScreenAdditionalData::Absent => {
-            if p {
+            if present {
                 return Outcome::Refused(Refusal::InvalidPayload);
             }
             room(head)
         }
-        ScreenAdditionalData::Empty => room(head + 1 + rest),
-        ScreenAdditionalData::Selection => judge_selection(head, l, u, rest),
+        ScreenAdditionalData::Empty => room(head + EMPTY_LEN + values),
+        ScreenAdditionalData::Selection => judge_selection(head, label, unit, values),
     }
 }
 
 // What stops construction, if anything does.
-pub(crate) fn judge(f: ScreenPopupFields) -> Outcome
-    ensures { λ r. ⌜ outcomeNumber r ≡ numberIn (construct f) ⌝ }
+pub(crate) fn judge(fields: ScreenPopupFields) -> Outcome
+    ensures { λ r. ⌜ outcomeNumber r ≡ numberIn (construct fields) ⌝ }
 {
-    if texts_made(f) {
-        let h = f.header.len;
-        let i = f.info.len;
-        let k = f.additional_data;
-        return judge_sizes(
-            h + i + 4,
-            k,
-            f.selection_text.len,
-            f.unit.len,
-            f.has_possible_values,
-            f.possible_values.len,
-        );
+    if !texts_made(fields) {
+        return Outcome::Refused(Refusal::RecordNotMade);
     }
-    Outcome::Refused(Refusal::RecordNotMade)
+    let kind = fields.additional_data;
+    judge_sizes(
+        fields.header.len + fields.info.len + HEAD_LEN,
+        kind,
+        fields.selection_text.len,
+        fields.unit.len,
+        fields.has_possible_values,
+        fields.possible_values.len,
+    )
 }
 
 // Puts a text and its 00; the place after it.
-fn put_text(s: &mut [u8], at: usize, t: CommandString) -> usize
-    requires { ⌜ (at + t .len < length (now s)) × (t .len ≤ 51) ⌝ }
-    ensures { λ r. ⌜ (now (s .exit) ≡ sets (now (s .entry)) at (bytesIn t ++ 0 ∷ [])) × (r ≡ at + (t .len + 1)) ⌝ }
+fn put_text(out: &mut [u8], at: usize, text: CommandString) -> usize
+    requires { ⌜ (at + text .len < length (now out)) × (text .len ≤ 51) ⌝ }
+    ensures { λ r. ⌜ Puts at (bytesIn text ++ 0 ∷ []) (text .len + 1) r (now (out .entry)) (now (out .exit)) ⌝ }
 {
-    let b = t.bytes;
-    let n = t.len;
-    codec::writer::put_bytes(s, at, &b[..n]);
-    s[at + n] = 0;
-    at + (n + 1)
+    let bytes = text.bytes;
+    let len = text.len;
+    put_bytes(out, at, &bytes[..len]);
+    out[at + len] = 0;
+    at + (len + 1)
 }
 
-fn put_head(s: &mut [u8], h: CommandString, i: CommandString, time: u8, close: bool) -> usize
-    requires { ⌜ ((h .len ≤ 51) × (i .len ≤ 51)) × (h .len + i .len + 4 ≤ length (now s)) ⌝ }
-    ensures { λ r. ⌜ (now (s .exit) ≡ sets (now (s .entry)) 0 (writeItems headItems (bytesIn h ∷ bytesIn i ∷ (time ∷ []) ∷ (bit close ∷ []) ∷ []))) × (r ≡ h .len + i .len + 4) ⌝ }
+fn put_head(
+    out: &mut [u8],
+    header: CommandString,
+    info: CommandString,
+    timeout: u8,
+    close: bool,
+) -> usize
+    requires { ⌜ ((header .len ≤ 51) × (info .len ≤ 51)) × (header .len + info .len + 4 ≤ length (now out)) ⌝ }
+    ensures { λ r. ⌜ PutsHead header info timeout close r (now (out .entry)) (now (out .exit)) ⌝ }
 {
-    let c = codec::writer::bit_of(close);
-    let a = put_text(s, 0, h);
-    let b = put_text(s, a, i);
-    s[b] = time;
-    s[b + 1] = c;
-    b + 2
+    let close_byte = bit_of(close);
+    let info_at = put_text(out, 0, header);
+    let timeout_at = put_text(out, info_at, info);
+    out[timeout_at] = timeout;
+    out[timeout_at + 1] = close_byte;
+    timeout_at + 2
 }
 
-fn put_selection(s: &mut [u8], at: usize, f: ScreenPopupFields) -> usize
-    requires { ⌜ ((f .«selection_text» .len ≤ 51) × (f .unit .len ≤ 51)) × (at + (f .«selection_text» .len + f .unit .len + 6) ≤ length (now s)) ⌝ }
-    ensures { λ r. ⌜ (now (s .exit) ≡ sets (now (s .entry)) at (writeItems (moreItems ScreenAdditionalData.Selection) (moreSays ScreenAdditionalData.Selection f))) × (r ≡ at + (f .«selection_text» .len + f .unit .len + 6)) ⌝ }
+fn put_selection(out: &mut [u8], at: usize, fields: ScreenPopupFields) -> usize
+    requires { ⌜ SelectionFits fields × (at + moreSize ScreenAdditionalData.Selection fields ≤ length (now out)) ⌝ }
+    ensures { λ r. ⌜ PutsMore ScreenAdditionalData.Selection at fields r (now (out .entry)) (now (out .exit)) ⌝ }
 {
-    let l = f.selection_text;
-    let a = put_text(s, at, l);
-    s[a] = f.value;
-    s[a + 1] = f.min_value;
-    s[a + 2] = f.max_value;
-    s[a + 3] = f.default_value;
-    let u = f.unit;
-    put_text(s, a + 4, u)
+    let label = fields.selection_text;
+    let value_at = put_text(out, at, label);
+    out[value_at] = fields.value;
+    out[value_at + 1] = fields.min_value;
+    out[value_at + 2] = fields.max_value;
+    out[value_at + 3] = fields.default_value;
+    let unit = fields.unit;
+    put_text(out, value_at + 4, unit)
 }
 
-fn put_more(s: &mut [u8], at: usize, f: ScreenPopupFields) -> usize
-    requires { ⌜ (f .«additional_data» ≡ ScreenAdditionalData.Selection → (f .«selection_text» .len ≤ 51) × (f .unit .len ≤ 51)) × (at + moreSize (f .«additional_data») f ≤ length (now s)) ⌝ }
-    ensures { λ r. ⌜ (now (s .exit) ≡ sets (now (s .entry)) at (writeItems (moreItems (f .«additional_data»)) (moreSays (f .«additional_data») f))) × (r ≡ at + moreSize (f .«additional_data») f) ⌝ }
+fn put_more(out: &mut [u8], at: usize, fields: ScreenPopupFields) -> usize
+    requires { ⌜ MoreFits fields × (at + moreSize (fields .«additional_data») fields ≤ length (now out)) ⌝ }
+    ensures { λ r. ⌜ PutsMore (fields .«additional_data») at fields r (now (out .entry)) (now (out .exit)) ⌝ }
 {
-    let k = f.additional_data;
-    match k {
+    let kind = fields.additional_data;
+    match kind {
         ScreenAdditionalData::Absent => at,
         ScreenAdditionalData::Empty => {
-            s[at] = 0;
-            at + 1
+            out[at] = 0;
+            at + EMPTY_LEN
         }
-        ScreenAdditionalData::Selection => put_selection(s, at, f),
+        ScreenAdditionalData::Selection => put_selection(out, at, fields),
     }
 }
 
-fn put_values(s: &mut [u8], at: usize, f: ScreenPopupFields) -> usize
-    requires { ⌜ (f .«has_possible_values» ≡ true → f .«possible_values» .len ≤ 51) × (at + pick (f .«has_possible_values») (f .«possible_values» .len + 1) 0 ≤ length (now s)) ⌝ }
-    ensures { λ r. ⌜ (now (s .exit) ≡ sets (now (s .entry)) at (writeItems (valuesItems (f .«has_possible_values»)) (valuesSays (f .«has_possible_values») f))) × (r ≡ at + pick (f .«has_possible_values») (f .«possible_values» .len + 1) 0) ⌝ }
+fn put_values(out: &mut [u8], at: usize, fields: ScreenPopupFields) -> usize
+    requires { ⌜ ValuesFit fields × (at + valuesSize fields ≤ length (now out)) ⌝ }
+    ensures { λ r. ⌜ PutsValues at fields r (now (out .entry)) (now (out .exit)) ⌝ }
 {
-    if f.has_possible_values {
-        let v = f.possible_values;
-        return put_text(s, at, v);
+    if !fields.has_possible_values {
+        return at;
     }
-    at
+    let values = fields.possible_values;
+    put_text(out, at, values)
 }
 
 // Puts what nothing stops; how many bytes it is.
-fn put_all(s: &mut [u8], f: ScreenPopupFields) -> usize
-    requires { ⌜ (numberIn (construct f) ≡ 0) × (length (now s) ≡ 55) ⌝ }
-    ensures { λ r. ⌜ (now (s .exit) ≡ sets (now (s .entry)) 0 (writePopup (popupSays f))) × (r ≡ length (writePopup (popupSays f))) ⌝ }
+fn put_all(out: &mut [u8], fields: ScreenPopupFields) -> usize
+    requires { ⌜ (numberIn (construct fields) ≡ 0) × (length (now out) ≡ 55) ⌝ }
+    ensures { λ r. ⌜ PutsPopup fields r (now (out .entry)) (now (out .exit)) ⌝ }
 {
-    let h = f.header;
-    let i = f.info;
-    let a = put_head(s, h, i, f.max_timeout_interval, f.close_button_option);
-    let b = put_more(s, a, f);
-    put_values(s, b, f)
+    let header = fields.header;
+    let info = fields.info;
+    let more_at = put_head(
+        out,
+        header,
+        info,
+        fields.max_timeout_interval,
+        fields.close_button_option,
+    );
+    let values_at = put_more(out, more_at, fields);
+    put_values(out, values_at, fields)
 }
 
 // The popup of fields that nothing stops.
-pub(crate) fn put(f: ScreenPopupFields) -> ScreenPopup
-    requires { ⌜ numberIn (construct f) ≡ 0 ⌝ }
-    ensures { λ r. ⌜ got r ≡ construct f ⌝ }
+pub(crate) fn put(fields: ScreenPopupFields) -> ScreenPopup
+    requires { ⌜ numberIn (construct fields) ≡ 0 ⌝ }
+    ensures { λ r. ⌜ got r ≡ construct fields ⌝ }
 {
-    let mut out = [0u8; 55];
-    let n = put_all(&mut out, f);
-    ScreenPopup { len: n, bytes: out }
+    let mut bytes = [0u8; 55];
+    let len = put_all(&mut bytes, fields);
+    ScreenPopup { len, bytes }
 }

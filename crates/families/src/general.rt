@@ -1,11 +1,12 @@
 // 0x0A General.
 ghost use mathlib.Core.Path.{_≡_};
-ghost use mathlib.Core.List.{_∷_, []};
+ghost use Prim.Native.Nat.{_≤_};
 ghost use lib.ListN.{length};
+ghost use Rattle.codec.specs.Writing.{writeBody};
+ghost use mathlib.Core.List.{_∷_, []};
 ghost use Rattle.codec.specs.Reading.{readItems, readBody};
 ghost use Rattle.codec.specs.Sheet.{said, got, andThen, byte, long, flag, first};
-ghost use Rattle.codec.specs.Writing.{writeBody, stopInOrder};
-ghost use Rattle.codec.specs.Told.{Writes, bit, toldNumber, toldFlag, atMost};
+ghost use Rattle.codec.specs.Told.{WritesInOrder, bit, toldNumber, toldFlag, atMost};
 ghost use Rattle.codec.specs.Taking.{inTurn, readBehind};
 ghost use Rattle.families.specs.Sheets.{generalRows};
 ghost use Rattle.families.specs.General.{generalSays, toldGeneral};
@@ -15,10 +16,13 @@ use codec::reader::Reader;
 use codec::reader::Width;
 use codec::refusal::Refusal;
 use codec::writer::Written;
+use codec::writer::bit_of;
+use codec::writer::put_byte;
+use codec::writer::put_number;
 
-const SUB_COMMAND_ID_GENERAL_SPEED_PROPOSAL: u32 = 0x70;
+pub const SUB_COMMAND_ID_GENERAL_SPEED_PROPOSAL: u8 = 0x70;
 
-const SUB_COMMAND_ID_GENERAL_SPEED_PROPOSAL_RESPONSE: u32 = 0x71;
+pub const SUB_COMMAND_ID_GENERAL_SPEED_PROPOSAL_RESPONSE: u8 = 0x71;
 
 pub enum GeneralCommand {
     SpeedProposal { port_id: u8, proposed_baudrate: u32 },
@@ -84,10 +88,11 @@ fn read_response(rest: &[u8]) -> GeneralRead
 
 // The sub-command is judged before the items behind it are taken.
 fn read_behind(sub: NumberRead, rest: &[u8]) -> GeneralRead
+    requires { ⌜ atMost 255 sub ⌝ }
     ensures { λ r. ⌜ toldGeneral r ≡ andThen (toldNumber sub) (λ v. readBehind generalRows (now (rest .entry)) (first v)) ⌝ }
 {
     match sub {
-        NumberRead::Got(sub) => match sub {
+        NumberRead::Got(sub) => match sub as u8 {
             SUB_COMMAND_ID_GENERAL_SPEED_PROPOSAL => read_proposal(rest),
             SUB_COMMAND_ID_GENERAL_SPEED_PROPOSAL_RESPONSE => read_response(rest),
             _ => GeneralRead::Refused(Refusal::InvalidPayload),
@@ -104,38 +109,36 @@ pub fn read(body: &[u8]) -> GeneralRead
     read_behind(sub, input.remaining)
 }
 
+const SPEED_PROPOSAL_LEN: usize = 6;
+
+const SPEED_PROPOSAL_RESPONSE_LEN: usize = 3;
+
 fn write_proposal(port: u8, baud: u32, body: &mut [u8]) -> Written
-    ensures { λ r. ⌜ Writes (stopInOrder generalRows (length (now (body .entry))) (said 0x70 ((port ∷ []) ∷ (baud ∷ []) ∷ []))) (writeBody generalRows (said 0x70 ((port ∷ []) ∷ (baud ∷ []) ∷ []))) r (now (body .entry)) (now (body .exit)) ⌝ }
+    ensures { λ r. ⌜ WritesInOrder generalRows (said 0x70 ((port ∷ []) ∷ (baud ∷ []) ∷ [])) r (now (body .entry)) (now (body .exit)) ⌝ }
 {
-    if body.len() < 6 {
+    if body.len() < SPEED_PROPOSAL_LEN {
         return Written::Refused(Refusal::BufferOverflow);
     }
-    codec::writer::put_number(body, 0, Width::One, SUB_COMMAND_ID_GENERAL_SPEED_PROPOSAL);
-    codec::writer::put_number(body, 1, Width::One, port as u32);
-    codec::writer::put_number(body, 2, Width::Four, baud);
-    Written::Count(6)
+    put_byte(body, 0, SUB_COMMAND_ID_GENERAL_SPEED_PROPOSAL);
+    put_byte(body, 1, port);
+    put_number(body, 2, Width::Four, baud);
+    Written::Count(SPEED_PROPOSAL_LEN)
 }
 
 fn write_response(port: u8, accepted: bool, body: &mut [u8]) -> Written
-    ensures { λ r. ⌜ Writes (stopInOrder generalRows (length (now (body .entry))) (said 0x71 ((port ∷ []) ∷ (bit accepted ∷ []) ∷ []))) (writeBody generalRows (said 0x71 ((port ∷ []) ∷ (bit accepted ∷ []) ∷ []))) r (now (body .entry)) (now (body .exit)) ⌝ }
+    ensures { λ r. ⌜ WritesInOrder generalRows (said 0x71 ((port ∷ []) ∷ (bit accepted ∷ []) ∷ [])) r (now (body .entry)) (now (body .exit)) ⌝ }
 {
-    if body.len() < 3 {
+    if body.len() < SPEED_PROPOSAL_RESPONSE_LEN {
         return Written::Refused(Refusal::BufferOverflow);
     }
-    let a = codec::writer::bit_of(accepted);
-    codec::writer::put_number(
-        body,
-        0,
-        Width::One,
-        SUB_COMMAND_ID_GENERAL_SPEED_PROPOSAL_RESPONSE,
-    );
-    codec::writer::put_number(body, 1, Width::One, port as u32);
-    codec::writer::put_number(body, 2, Width::One, a as u32);
-    Written::Count(3)
+    put_byte(body, 0, SUB_COMMAND_ID_GENERAL_SPEED_PROPOSAL_RESPONSE);
+    put_byte(body, 1, port);
+    put_byte(body, 2, bit_of(accepted));
+    Written::Count(SPEED_PROPOSAL_RESPONSE_LEN)
 }
 
 pub fn write_to(command: GeneralCommand, body: &mut [u8]) -> Written
-    ensures { λ r. ⌜ Writes (stopInOrder generalRows (length (now (body .entry))) (generalSays command)) (writeBody generalRows (generalSays command)) r (now (body .entry)) (now (body .exit)) ⌝ }
+    ensures { λ r. ⌜ WritesInOrder generalRows (generalSays command) r (now (body .entry)) (now (body .exit)) ⌝ }
 {
     match command {
         GeneralCommand::SpeedProposal {
@@ -147,5 +150,16 @@ pub fn write_to(command: GeneralCommand, body: &mut [u8]) -> Written
             accepted,
             body,
         ),
+    }
+}
+
+// How many bytes `write_to` writes, counted and not written.
+pub fn written_len(command: GeneralCommand) -> usize
+    ensures { λ r. ⌜ r ≡ length (writeBody generalRows (generalSays command)) ⌝ }
+    ensures { λ r. ⌜ r ≤ 9 ⌝ }
+{
+    match command {
+        GeneralCommand::SpeedProposal { .. } => SPEED_PROPOSAL_LEN,
+        GeneralCommand::SpeedProposalResponse { .. } => SPEED_PROPOSAL_RESPONSE_LEN,
     }
 }

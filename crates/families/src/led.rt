@@ -1,20 +1,27 @@
 // 0x09 LED.
 ghost use mathlib.Core.Path.{_≡_};
 ghost use mathlib.Core.List.{_∷_, []};
+ghost use Prim.Native.Nat.{_+_, _≤_};
 ghost use lib.ListN.{length};
+ghost use lib.Seq.{sets};
 ghost use Rattle.codec.specs.Sheet.{said, got, andThen, word, first};
 ghost use Rattle.codec.specs.Digits.{join, split};
 ghost use Rattle.codec.specs.Reading.{readItems, readBody};
-ghost use Rattle.codec.specs.Writing.{okItem, itemsOf, writeBody, stopInOrder};
-ghost use Rattle.codec.specs.Told.{Writes, toldNumber, atMost};
+ghost use Rattle.codec.specs.Writing.{okItem, itemsOf, counted, writeBody};
+ghost use Rattle.codec.specs.Told.{WritesInOrder, toldNumber, toldWritten, atMost};
 ghost use Rattle.codec.specs.Taking.{inTurn, readBehind};
 ghost use Rattle.families.specs.Sheets.{ledRows, colour};
-ghost use Rattle.families.specs.Led.{colorSays, toldColor, ledSays, toldLed, colorTold, toldFade};
+ghost use Rattle.families.specs.Led.{colorSays, toldColor, ledSays, toldLed, colorTold, toldFade, fadeSays, stopFirst, timedBytes};
+use crate::SUB_COMMAND_LEN;
 use codec::reader::NumberRead;
 use codec::reader::Reader;
 use codec::reader::Width;
 use codec::refusal::Refusal;
 use codec::writer::Written;
+use codec::writer::put_byte;
+use codec::writer::put_number;
+use codec::writer::values_first;
+use codec::writer::write_alone;
 
 pub struct LedColor {
     pub hue: u16,
@@ -63,15 +70,15 @@ pub(crate) enum FadeRead {
     Refused(Refusal),
 }
 
-const SUB_COMMAND_ID_LED_SET_DEFAULT: u32 = 0x01;
+pub const SUB_COMMAND_ID_LED_SET_DEFAULT: u8 = 0x01;
 
-const SUB_COMMAND_ID_LED_OVERRIDE_COLOR: u32 = 0x02;
+pub const SUB_COMMAND_ID_LED_OVERRIDE_COLOR: u8 = 0x02;
 
-const SUB_COMMAND_ID_LED_OVERRIDE_PULSE: u32 = 0x03;
+pub const SUB_COMMAND_ID_LED_OVERRIDE_PULSE: u8 = 0x03;
 
-const SUB_COMMAND_ID_LED_OVERRIDE_BLINK: u32 = 0x04;
+pub const SUB_COMMAND_ID_LED_OVERRIDE_BLINK: u8 = 0x04;
 
-const SUB_COMMAND_ID_LED_OVERRIDE_SHIFT: u32 = 0x05;
+pub const SUB_COMMAND_ID_LED_OVERRIDE_SHIFT: u8 = 0x05;
 
 const HIGHEST_HUE: u16 = 359;
 
@@ -79,21 +86,22 @@ const HIGHEST_SATURATION: u8 = 100;
 
 const HIGHEST_VALUE: u8 = 100;
 
-fn valid(c: LedColor) -> bool
-    ensures { λ r. ⌜ r ≡ okItem colour (colorSays c) ⌝ }
+fn valid(color: LedColor) -> bool
+    ensures { λ r. ⌜ r ≡ okItem colour (colorSays color) ⌝ }
 {
-    if HIGHEST_HUE < c.hue {
+    if HIGHEST_HUE < color.hue {
         return false;
     }
-    if HIGHEST_SATURATION < c.saturation {
+    if HIGHEST_SATURATION < color.saturation {
         return false;
     }
-    if HIGHEST_VALUE < c.value {
+    if HIGHEST_VALUE < color.value {
         return false;
     }
     true
 }
 
+// "9 bits hue (0-359), 7 saturation (0-100), 8 value (0-100)", of a colour's three bytes.
 fn unpacked(n: u32) -> LedColor
     ensures { λ r. ⌜ colorSays r ≡ split (9 ∷ 7 ∷ 8 ∷ []) n ⌝ }
 {
@@ -110,9 +118,9 @@ fn color_of(bytes: NumberRead) -> ColorRead
 {
     match bytes {
         NumberRead::Got(n) => {
-            let c = unpacked(n);
-            if valid(c) {
-                ColorRead::Got(c)
+            let color = unpacked(n);
+            if valid(color) {
+                ColorRead::Got(color)
             } else {
                 ColorRead::Refused(Refusal::InvalidPayload)
             }
@@ -125,7 +133,7 @@ fn color(bytes: NumberRead) -> LedRead
     ensures { λ r. ⌜ toldLed r ≡ andThen (inTurn (colorTold bytes ∷ [])) (λ vs. got (said 0x02 vs)) ⌝ }
 {
     match color_of(bytes) {
-        ColorRead::Got(c) => LedRead::Got(LedCommand::OverrideColor(c)),
+        ColorRead::Got(color) => LedRead::Got(LedCommand::OverrideColor(color)),
         ColorRead::Refused(r) => LedRead::Refused(r),
     }
 }
@@ -143,19 +151,17 @@ fn fade_of(time: NumberRead, start: NumberRead, stop: NumberRead) -> FadeRead
     requires { ⌜ atMost 65535 time ⌝ }
     ensures { λ r. ⌜ toldFade r ≡ inTurn (toldNumber time ∷ colorTold start ∷ colorTold stop ∷ []) ⌝ }
 {
-    match time {
-        NumberRead::Got(t) => match color_of(start) {
-            ColorRead::Got(a) => match color_of(stop) {
-                ColorRead::Got(b) => FadeRead::Got(Fade {
-                    time: t as u16,
-                    start: a,
-                    stop: b,
-                }),
-                ColorRead::Refused(r) => FadeRead::Refused(r),
-            },
-            ColorRead::Refused(r) => FadeRead::Refused(r),
-        },
-        NumberRead::Refused(r) => FadeRead::Refused(r),
+    let time = match time {
+        NumberRead::Got(time) => time as u16,
+        NumberRead::Refused(r) => return FadeRead::Refused(r),
+    };
+    let start = match color_of(start) {
+        ColorRead::Got(color) => color,
+        ColorRead::Refused(r) => return FadeRead::Refused(r),
+    };
+    match color_of(stop) {
+        ColorRead::Got(stop) => FadeRead::Got(Fade { time, start, stop }),
+        ColorRead::Refused(r) => FadeRead::Refused(r),
     }
 }
 
@@ -175,10 +181,10 @@ fn shift(interval: NumberRead, bytes: NumberRead) -> LedRead
     ensures { λ r. ⌜ toldLed r ≡ andThen (inTurn (toldNumber interval ∷ colorTold bytes ∷ [])) (λ vs. got (said 0x05 vs)) ⌝ }
 {
     match interval {
-        NumberRead::Got(t) => match color_of(bytes) {
-            ColorRead::Got(c) => LedRead::Got(LedCommand::OverrideShift {
-                interval_ms: t as u16,
-                color: c,
+        NumberRead::Got(interval) => match color_of(bytes) {
+            ColorRead::Got(color) => LedRead::Got(LedCommand::OverrideShift {
+                interval_ms: interval as u16,
+                color,
             }),
             ColorRead::Refused(r) => LedRead::Refused(r),
         },
@@ -232,10 +238,11 @@ fn blink_of(f: FadeRead) -> LedRead
 
 // The sub-command is judged before the items behind it are taken.
 fn read_behind(sub: NumberRead, rest: &[u8]) -> LedRead
+    requires { ⌜ atMost 255 sub ⌝ }
     ensures { λ r. ⌜ toldLed r ≡ andThen (toldNumber sub) (λ v. readBehind ledRows (now (rest .entry)) (first v)) ⌝ }
 {
     match sub {
-        NumberRead::Got(sub) => match sub {
+        NumberRead::Got(sub) => match sub as u8 {
             SUB_COMMAND_ID_LED_SET_DEFAULT => LedRead::Got(LedCommand::SetDefault),
             SUB_COMMAND_ID_LED_OVERRIDE_COLOR => read_color(rest),
             SUB_COMMAND_ID_LED_OVERRIDE_PULSE => pulse_of(read_fade(rest)),
@@ -255,72 +262,82 @@ pub fn read(body: &[u8]) -> LedRead
     read_behind(sub, input.remaining)
 }
 
-fn packed(c: LedColor) -> u32
-    ensures { λ r. ⌜ r ≡ join (9 ∷ 7 ∷ 8 ∷ []) (colorSays c) ⌝ }
+fn packed(color: LedColor) -> u32
+    ensures { λ r. ⌜ r ≡ join (9 ∷ 7 ∷ 8 ∷ []) (colorSays color) ⌝ }
 {
-    (c.hue as u32) * 32768 + (c.saturation as u32) * 256 + (c.value as u32)
+    (color.hue as u32) * 32768 + (color.saturation as u32) * 256 + (color.value as u32)
+}
+
+// A colour's bytes; and a body up to the end of an item: of a colour, of a time, of a colour behind the time, and of a second one.
+const COLOR_LEN: usize = 3;
+
+const SUB_COLOR_LEN: usize = 4;
+
+const TIMED_LEN: usize = 3;
+
+const TIMED_COLOR_LEN: usize = 6;
+
+const TIMED_COLORS_LEN: usize = 9;
+
+// "sub-command and time need room; each colour is judged (2), then needs room": those `before` the first colour, and that colour.
+fn judge_first(color: LedColor, before: usize, room: usize) -> Written
+    requires { ⌜ before ≤ 3 ⌝ }
+    ensures { λ r. ⌜ toldWritten r ≡ counted (stopFirst before room (colorSays color)) (before + 3) ⌝ }
+{
+    if room < before {
+        return Written::Refused(Refusal::BufferOverflow);
+    }
+    values_first(valid(color), room, before + COLOR_LEN)
 }
 
 fn write_color(color: LedColor, body: &mut [u8]) -> Written
-    ensures { λ r. ⌜ Writes (stopInOrder ledRows (length (now (body .entry))) (said 0x02 (colorSays color ∷ []))) (writeBody ledRows (said 0x02 (colorSays color ∷ []))) r (now (body .entry)) (now (body .exit)) ⌝ }
+    ensures { λ r. ⌜ WritesInOrder ledRows (said 0x02 (colorSays color ∷ [])) r (now (body .entry)) (now (body .exit)) ⌝ }
 {
-    if body.len() < 1 {
-        return Written::Refused(Refusal::BufferOverflow);
-    }
-    let ok = valid(color);
-    match codec::writer::values_first(ok, body.len(), 4) {
+    match judge_first(color, SUB_COMMAND_LEN, body.len()) {
         Written::Count(n) => {
-            let x = packed(color);
-            codec::writer::put_number(body, 0, Width::One, SUB_COMMAND_ID_LED_OVERRIDE_COLOR);
-            codec::writer::put_number(body, 1, Width::Three, x);
+            put_byte(body, 0, SUB_COMMAND_ID_LED_OVERRIDE_COLOR);
+            put_number(body, SUB_COMMAND_LEN, Width::Three, packed(color));
             Written::Count(n)
         }
         Written::Refused(r) => Written::Refused(r),
     }
 }
 
-// A pulse or a blink, by its sub-command.
-fn write_fade(sub: u8, t: u16, start: LedColor, stop: LedColor, body: &mut [u8]) -> Written
-    requires { ⌜ itemsOf ledRows sub ≡ word ∷ colour ∷ colour ∷ [] ⌝ }
-    ensures { λ r. ⌜ Writes (stopInOrder ledRows (length (now (body .entry))) (said sub ((t ∷ []) ∷ colorSays start ∷ colorSays stop ∷ []))) (writeBody ledRows (said sub ((t ∷ []) ∷ colorSays start ∷ colorSays stop ∷ []))) r (now (body .entry)) (now (body .exit)) ⌝ }
+// Sub-command, time and first colour, into a body that has room for them.
+fn put_timed(sub: u8, time: u16, color: LedColor, body: &mut [u8])
+    requires { ⌜ 6 ≤ length (now body) ⌝ }
+    ensures { λ r. ⌜ now (body .exit) ≡ sets (now (body .entry)) 0 (timedBytes sub time (colorSays color)) ⌝ }
 {
-    if body.len() < 3 {
-        return Written::Refused(Refusal::BufferOverflow);
+    put_byte(body, 0, sub);
+    put_number(body, SUB_COMMAND_LEN, Width::Two, time as u32);
+    put_number(body, TIMED_LEN, Width::Three, packed(color));
+}
+
+// A pulse or a blink, by its sub-command.
+fn write_fade(sub: u8, time: u16, start: LedColor, stop: LedColor, body: &mut [u8]) -> Written
+    requires { ⌜ itemsOf ledRows sub ≡ word ∷ colour ∷ colour ∷ [] ⌝ }
+    ensures { λ r. ⌜ WritesInOrder ledRows (fadeSays sub time start stop) r (now (body .entry)) (now (body .exit)) ⌝ }
+{
+    match judge_first(start, TIMED_LEN, body.len()) {
+        Written::Count(_) => (),
+        Written::Refused(r) => return Written::Refused(r),
     }
-    let start_ok = valid(start);
-    match codec::writer::values_first(start_ok, body.len(), 6) {
-        Written::Count(_) => {
-            let stop_ok = valid(stop);
-            match codec::writer::values_first(stop_ok, body.len(), 9) {
-                Written::Count(n) => {
-                    let x = packed(start);
-                    let y = packed(stop);
-                    codec::writer::put_number(body, 0, Width::One, sub as u32);
-                    codec::writer::put_number(body, 1, Width::Two, t as u32);
-                    codec::writer::put_number(body, 3, Width::Three, x);
-                    codec::writer::put_number(body, 6, Width::Three, y);
-                    Written::Count(n)
-                }
-                Written::Refused(r) => Written::Refused(r),
-            }
+    match values_first(valid(stop), body.len(), TIMED_COLORS_LEN) {
+        Written::Count(n) => {
+            put_timed(sub, time, start, body);
+            put_number(body, TIMED_COLOR_LEN, Width::Three, packed(stop));
+            Written::Count(n)
         }
         Written::Refused(r) => Written::Refused(r),
     }
 }
 
-fn write_shift(t: u16, color: LedColor, body: &mut [u8]) -> Written
-    ensures { λ r. ⌜ Writes (stopInOrder ledRows (length (now (body .entry))) (said 0x05 ((t ∷ []) ∷ colorSays color ∷ []))) (writeBody ledRows (said 0x05 ((t ∷ []) ∷ colorSays color ∷ []))) r (now (body .entry)) (now (body .exit)) ⌝ }
+fn write_shift(time: u16, color: LedColor, body: &mut [u8]) -> Written
+    ensures { λ r. ⌜ WritesInOrder ledRows (said 0x05 ((time ∷ []) ∷ colorSays color ∷ [])) r (now (body .entry)) (now (body .exit)) ⌝ }
 {
-    if body.len() < 3 {
-        return Written::Refused(Refusal::BufferOverflow);
-    }
-    let ok = valid(color);
-    match codec::writer::values_first(ok, body.len(), 6) {
+    match judge_first(color, TIMED_LEN, body.len()) {
         Written::Count(n) => {
-            let x = packed(color);
-            codec::writer::put_number(body, 0, Width::One, SUB_COMMAND_ID_LED_OVERRIDE_SHIFT);
-            codec::writer::put_number(body, 1, Width::Two, t as u32);
-            codec::writer::put_number(body, 3, Width::Three, x);
+            put_timed(SUB_COMMAND_ID_LED_OVERRIDE_SHIFT, time, color, body);
             Written::Count(n)
         }
         Written::Refused(r) => Written::Refused(r),
@@ -329,21 +346,47 @@ fn write_shift(t: u16, color: LedColor, body: &mut [u8]) -> Written
 
 // Item by item: sub-command and time need room; each colour is judged (2), then needs room (3).
 pub fn write_to(command: LedCommand, body: &mut [u8]) -> Written
-    ensures { λ r. ⌜ Writes (stopInOrder ledRows (length (now (body .entry))) (ledSays command)) (writeBody ledRows (ledSays command)) r (now (body .entry)) (now (body .exit)) ⌝ }
+    ensures { λ r. ⌜ WritesInOrder ledRows (ledSays command) r (now (body .entry)) (now (body .exit)) ⌝ }
 {
     match command {
-        LedCommand::SetDefault => codec::writer::write_alone(0x01, body),
+        LedCommand::SetDefault => write_alone(SUB_COMMAND_ID_LED_SET_DEFAULT, body),
         LedCommand::OverrideColor(color) => write_color(color, body),
         LedCommand::OverridePulse {
             duration_ms,
             start,
             stop,
-        } => write_fade(0x03, duration_ms, start, stop, body),
+        } => write_fade(
+            SUB_COMMAND_ID_LED_OVERRIDE_PULSE,
+            duration_ms,
+            start,
+            stop,
+            body,
+        ),
         LedCommand::OverrideBlink {
             interval_ms,
             start,
             stop,
-        } => write_fade(0x04, interval_ms, start, stop, body),
+        } => write_fade(
+            SUB_COMMAND_ID_LED_OVERRIDE_BLINK,
+            interval_ms,
+            start,
+            stop,
+            body,
+        ),
         LedCommand::OverrideShift { interval_ms, color } => write_shift(interval_ms, color, body),
+    }
+}
+
+// How many bytes `write_to` writes, counted and not written.
+pub fn written_len(command: LedCommand) -> usize
+    ensures { λ r. ⌜ r ≡ length (writeBody ledRows (ledSays command)) ⌝ }
+    ensures { λ r. ⌜ r ≤ 9 ⌝ }
+{
+    match command {
+        LedCommand::SetDefault => SUB_COMMAND_LEN,
+        LedCommand::OverrideColor(_) => SUB_COLOR_LEN,
+        LedCommand::OverridePulse { .. } => TIMED_COLORS_LEN,
+        LedCommand::OverrideBlink { .. } => TIMED_COLORS_LEN,
+        LedCommand::OverrideShift { .. } => TIMED_COLOR_LEN,
     }
 }

@@ -1,15 +1,20 @@
 // 0x05 OSD.
 ghost use mathlib.Core.Path.{_≡_};
+ghost use Prim.Native.Nat.{_≤_};
 ghost use lib.ListN.{length};
+ghost use Rattle.codec.specs.Writing.{writeBody};
 ghost use Rattle.codec.specs.Reading.{readBody};
-ghost use Rattle.codec.specs.Writing.{writeBody, stopInOrder};
-ghost use Rattle.codec.specs.Told.{Writes};
+ghost use Rattle.codec.specs.Told.{WritesInOrder};
 ghost use Rattle.families.specs.Sheets.{osdRows};
 ghost use Rattle.families.specs.Osd.{osdSays, toldOsd};
+use crate::WITH_BYTE_LEN;
 use codec::reader::NumberRead;
-use codec::reader::Width;
+use codec::reader::read_byte;
 use codec::refusal::Refusal;
 use codec::writer::Written;
+use codec::writer::write_with_byte;
+
+pub const SUB_COMMAND_ID_OSD_SEND_BUTTONS: u8 = 0x01;
 
 // The Rust's one case, SendButtons(buttons).
 pub struct OsdCommand {
@@ -24,20 +29,31 @@ pub enum OsdRead {
 pub fn read(body: &[u8]) -> OsdRead
     ensures { λ r. ⌜ toldOsd r ≡ readBody osdRows (now (body .entry)) ⌝ }
 {
-    match codec::reader::read_number(body, 0, Width::One, 0, 255) {
-        NumberRead::Got(sub) => match sub {
-            0x01 => match codec::reader::read_number(body, 1, Width::One, 0, 255) {
-                NumberRead::Got(b) => OsdRead::Got(OsdCommand { buttons: b as u8 }),
-                NumberRead::Refused(r) => OsdRead::Refused(r),
-            },
-            _ => OsdRead::Refused(Refusal::InvalidPayload),
+    let sub = match read_byte(body, 0) {
+        NumberRead::Got(sub) => sub as u8,
+        NumberRead::Refused(r) => return OsdRead::Refused(r),
+    };
+    match sub {
+        SUB_COMMAND_ID_OSD_SEND_BUTTONS => match read_byte(body, 1) {
+            NumberRead::Got(buttons) => OsdRead::Got(OsdCommand {
+                buttons: buttons as u8,
+            }),
+            NumberRead::Refused(r) => OsdRead::Refused(r),
         },
-        NumberRead::Refused(r) => OsdRead::Refused(r),
+        _ => OsdRead::Refused(Refusal::InvalidPayload),
     }
 }
 
 pub fn write_to(command: OsdCommand, body: &mut [u8]) -> Written
-    ensures { λ r. ⌜ Writes (stopInOrder osdRows (length (now (body .entry))) (osdSays command)) (writeBody osdRows (osdSays command)) r (now (body .entry)) (now (body .exit)) ⌝ }
+    ensures { λ r. ⌜ WritesInOrder osdRows (osdSays command) r (now (body .entry)) (now (body .exit)) ⌝ }
 {
-    codec::writer::write_with_byte(0x01, command.buttons, body)
+    write_with_byte(SUB_COMMAND_ID_OSD_SEND_BUTTONS, command.buttons, body)
+}
+
+// How many bytes `write_to` writes, counted and not written.
+pub fn written_len(command: OsdCommand) -> usize
+    ensures { λ r. ⌜ r ≡ length (writeBody osdRows (osdSays command)) ⌝ }
+    ensures { λ r. ⌜ r ≤ 9 ⌝ }
+{
+    WITH_BYTE_LEN
 }

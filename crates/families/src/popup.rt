@@ -1,19 +1,14 @@
 // One parse of a popup: it tells where the items stand, and serves reading, inspection and made.
 ghost use mathlib.Core.Path.{_≡_};
-ghost use mathlib.Core.List.{_∷_, []};
 ghost use Prim.Native.Nat.{_≤_, _<_};
-ghost use lib.ListN.{length, drop, getD};
-ghost use Rattle.codec.specs.Reading.{readItems};
+ghost use lib.ListN.{length, getD};
 ghost use Rattle.codec.specs.Told.{atMost};
-ghost use Rattle.families.specs.Sheets.{textItem};
-ghost use Rattle.families.specs.Popup.{headItems, selectionItems, moreItems, valuesItems, additionalOf, remains, readPopup};
-ghost use Rattle.families.specs.Places.{short, headBy, noMore, toldHead, headIn, selectedBy, toldSelected, selectedIn, toldMore, moreIn, valuesOf, ValuesTaken, toldValues, valuesIn, toldPlaces, placesIn};
+ghost use Rattle.families.specs.Places.{short, headBy, ReadsHead, noMore, selectedBy, ReadsSelected, ReadsMore, valuesOf, ValuesTaken, ReadsValues, ReadsPlaces};
 use crate::screen::ScreenAdditionalData;
 use codec::reader::FlagRead;
 use codec::reader::NumberRead;
 use codec::reader::Reader;
 use codec::reader::TextRead;
-use codec::reader::Width;
 use codec::refusal::Refusal;
 
 // A text's bytes: their place and their number.
@@ -91,35 +86,50 @@ pub(crate) enum PopupRead {
     Refused(Refusal),
 }
 
+// A text that was taken: its bytes, and these with its 00.
+struct Taken {
+    len: usize,
+    next: usize,
+}
+
 // The places of a head follow from the lengths of its texts.
 fn head_of(header: TextRead, info: TextRead, timeout: NumberRead, close: FlagRead) -> HeadRead
     requires { ⌜ short header × (short info × atMost 255 timeout) ⌝ }
     ensures { λ r. ⌜ r ≡ headBy header info timeout close ⌝ }
 {
-    match header {
-        TextRead::Got { len: h, next: p } => match info {
-            TextRead::Got { len: i, next: q } => match timeout {
-                NumberRead::Got(t) => match close {
-                    FlagRead::Got(c) => HeadRead::Got(Head {
-                        header: Span { at: 0, len: h },
-                        info: Span { at: p, len: i },
-                        timeout: t as u8,
-                        close: c,
-                        next: p + q + 2,
-                    }),
-                    FlagRead::Refused(r) => HeadRead::Refused(r),
-                },
-                NumberRead::Refused(r) => HeadRead::Refused(r),
+    let header = match header {
+        TextRead::Got { len, next } => Taken { len, next },
+        TextRead::Refused(r) => return HeadRead::Refused(r),
+    };
+    let info = match info {
+        TextRead::Got { len, next } => Taken { len, next },
+        TextRead::Refused(r) => return HeadRead::Refused(r),
+    };
+    let timeout = match timeout {
+        NumberRead::Got(timeout) => timeout as u8,
+        NumberRead::Refused(r) => return HeadRead::Refused(r),
+    };
+    match close {
+        FlagRead::Got(close) => HeadRead::Got(Head {
+            header: Span {
+                at: 0,
+                len: header.len,
             },
-            TextRead::Refused(r) => HeadRead::Refused(r),
-        },
-        TextRead::Refused(r) => HeadRead::Refused(r),
+            info: Span {
+                at: header.next,
+                len: info.len,
+            },
+            timeout,
+            close,
+            next: header.next + info.next + 2,
+        }),
+        FlagRead::Refused(r) => HeadRead::Refused(r),
     }
 }
 
 // "header text, info text, timeout(1), close flag"
 fn read_head(s: &[u8]) -> HeadRead
-    ensures { λ r. ⌜ (toldHead (now (s .entry)) r ≡ readItems headItems (now (s .entry)) 0) × headIn (now (s .entry)) 0 r ⌝ }
+    ensures { λ r. ⌜ ReadsHead (now (s .entry)) r ⌝ }
 {
     let mut input = Reader::new(s);
     let header = input.string();
@@ -133,7 +143,7 @@ fn no_more(kind: ScreenAdditionalData, next: usize) -> More
     ensures { λ r. ⌜ r ≡ noMore kind next ⌝ }
 {
     More {
-        kind: kind,
+        kind,
         label: Span { at: 0, len: 0 },
         four: Four {
             value: 0,
@@ -142,7 +152,7 @@ fn no_more(kind: ScreenAdditionalData, next: usize) -> More
             default_value: 0,
         },
         unit: Span { at: 0, len: 0 },
-        next: next,
+        next,
     }
 }
 
@@ -157,39 +167,44 @@ fn selection_of(
     requires { ⌜ atMost 255 value × (atMost 255 «min_value» × (atMost 255 «max_value» × atMost 255 «default_value»)) ⌝ }
     ensures { λ r. ⌜ r ≡ selectedBy label value «min_value» «max_value» «default_value» unit ⌝ }
 {
-    match label {
-        TextRead::Got { len: l, next: _ } => match value {
-            NumberRead::Got(a) => match min_value {
-                NumberRead::Got(b) => match max_value {
-                    NumberRead::Got(c) => match default_value {
-                        NumberRead::Got(d) => match unit {
-                            TextRead::Got { len: u, next: _ } => SelectedRead::Got(Selected {
-                                label: l,
-                                four: Four {
-                                    value: a as u8,
-                                    min_value: b as u8,
-                                    max_value: c as u8,
-                                    default_value: d as u8,
-                                },
-                                unit: u,
-                            }),
-                            TextRead::Refused(r) => SelectedRead::Refused(r),
-                        },
-                        NumberRead::Refused(r) => SelectedRead::Refused(r),
-                    },
-                    NumberRead::Refused(r) => SelectedRead::Refused(r),
-                },
-                NumberRead::Refused(r) => SelectedRead::Refused(r),
+    let label = match label {
+        TextRead::Got { len, next: _ } => len,
+        TextRead::Refused(r) => return SelectedRead::Refused(r),
+    };
+    let value = match value {
+        NumberRead::Got(n) => n as u8,
+        NumberRead::Refused(r) => return SelectedRead::Refused(r),
+    };
+    let min_value = match min_value {
+        NumberRead::Got(n) => n as u8,
+        NumberRead::Refused(r) => return SelectedRead::Refused(r),
+    };
+    let max_value = match max_value {
+        NumberRead::Got(n) => n as u8,
+        NumberRead::Refused(r) => return SelectedRead::Refused(r),
+    };
+    let default_value = match default_value {
+        NumberRead::Got(n) => n as u8,
+        NumberRead::Refused(r) => return SelectedRead::Refused(r),
+    };
+    match unit {
+        TextRead::Got { len: unit, next: _ } => SelectedRead::Got(Selected {
+            label,
+            four: Four {
+                value,
+                min_value,
+                max_value,
+                default_value,
             },
-            NumberRead::Refused(r) => SelectedRead::Refused(r),
-        },
+            unit,
+        }),
         TextRead::Refused(r) => SelectedRead::Refused(r),
     }
 }
 
 // "label text, value, min, max, default (1 each), unit text"
 fn take_selection(rest: &[u8]) -> SelectedRead
-    ensures { λ r. ⌜ (toldSelected (now (rest .entry)) r ≡ readItems (textItem ∷ selectionItems) (now (rest .entry)) 0) × selectedIn (now (rest .entry)) r ⌝ }
+    ensures { λ r. ⌜ ReadsSelected (now (rest .entry)) r ⌝ }
 {
     let mut input = Reader::new(rest);
     let label = input.string();
@@ -201,27 +216,30 @@ fn take_selection(rest: &[u8]) -> SelectedRead
     selection_of(label, value, min_value, max_value, default_value, unit)
 }
 
+// The label's 00 and the four numbers.
+const UNIT_BEHIND_LABEL: usize = 5;
+
 // A selection: its label is not empty.
 fn read_selection(s: &[u8], at: usize) -> MoreRead
     requires { ⌜ (at < length (now s)) × (getD (now s) at 0 ≡ 0 → ⊥) ⌝ }
-    ensures { λ r. ⌜ (toldMore (now (s .entry)) r ≡ readItems (moreItems (additionalOf (drop at (now (s .entry))))) (now (s .entry)) at) × moreIn (now (s .entry)) at r ⌝ }
+    ensures { λ r. ⌜ ReadsMore (now (s .entry)) at r ⌝ }
 {
     match take_selection(&s[at..]) {
-        SelectedRead::Got(x) => {
-            let f = x.four;
-            let unit_at = at + (x.label + 5);
+        SelectedRead::Got(selected) => {
+            let four = selected.four;
+            let unit_at = at + (selected.label + UNIT_BEHIND_LABEL);
             MoreRead::Got(More {
                 kind: ScreenAdditionalData::Selection,
                 label: Span {
-                    at: at,
-                    len: x.label,
+                    at,
+                    len: selected.label,
                 },
-                four: f,
+                four,
                 unit: Span {
                     at: unit_at,
-                    len: x.unit,
+                    len: selected.unit,
                 },
-                next: unit_at + (x.unit + 1),
+                next: unit_at + (selected.unit + 1),
             })
         }
         SelectedRead::Refused(r) => MoreRead::Refused(r),
@@ -230,7 +248,7 @@ fn read_selection(s: &[u8], at: usize) -> MoreRead
 
 fn read_more(s: &[u8], at: usize) -> MoreRead
     requires { ⌜ at ≤ length (now s) ⌝ }
-    ensures { λ r. ⌜ (toldMore (now (s .entry)) r ≡ readItems (moreItems (additionalOf (drop at (now (s .entry))))) (now (s .entry)) at) × moreIn (now (s .entry)) at r ⌝ }
+    ensures { λ r. ⌜ ReadsMore (now (s .entry)) at r ⌝ }
 {
     if s.len() <= at {
         return MoreRead::Got(no_more(ScreenAdditionalData::Absent, at));
@@ -245,10 +263,10 @@ fn values_of(text: TextRead) -> ValuesRead
     ensures { λ r. ⌜ r ≡ valuesOf text ⌝ }
 {
     match text {
-        TextRead::Got { len: n, next: q } => ValuesRead::Got(Values {
+        TextRead::Got { len, next } => ValuesRead::Got(Values {
             present: true,
-            text: Span { at: 0, len: n },
-            next: q,
+            text: Span { at: 0, len },
+            next,
         }),
         TextRead::Refused(r) => ValuesRead::Refused(r),
     }
@@ -265,7 +283,7 @@ fn take_values(rest: &[u8]) -> ValuesRead
 
 fn read_values(s: &[u8], at: usize) -> ValuesRead
     requires { ⌜ at ≤ length (now s) ⌝ }
-    ensures { λ r. ⌜ (toldValues (now (s .entry)) r ≡ readItems (valuesItems (remains (drop at (now (s .entry))))) (now (s .entry)) at) × valuesIn (now (s .entry)) at r ⌝ }
+    ensures { λ r. ⌜ ReadsValues (now (s .entry)) at r ⌝ }
 {
     if s.len() <= at {
         return ValuesRead::Got(Values {
@@ -275,15 +293,12 @@ fn read_values(s: &[u8], at: usize) -> ValuesRead
         });
     }
     match take_values(&s[at..]) {
-        ValuesRead::Got(v) => {
-            let text = v.text;
+        ValuesRead::Got(values) => {
+            let text = values.text;
             ValuesRead::Got(Values {
                 present: true,
-                text: Span {
-                    at: at,
-                    len: text.len,
-                },
-                next: at + v.next,
+                text: Span { at, len: text.len },
+                next: at + values.next,
             })
         }
         ValuesRead::Refused(r) => ValuesRead::Refused(r),
@@ -292,20 +307,18 @@ fn read_values(s: &[u8], at: usize) -> ValuesRead
 
 // The popup at the front of the bytes.
 pub(crate) fn parse(s: &[u8]) -> PopupRead
-    ensures { λ r. ⌜ (toldPlaces (now (s .entry)) r ≡ readPopup (now (s .entry)) 0) × placesIn (now (s .entry)) 0 r ⌝ }
+    ensures { λ r. ⌜ ReadsPlaces (now (s .entry)) r ⌝ }
 {
-    match read_head(s) {
-        HeadRead::Got(h) => match read_more(s, h.next) {
-            MoreRead::Got(m) => match read_values(s, m.next) {
-                ValuesRead::Got(v) => PopupRead::Got(Places {
-                    head: h,
-                    more: m,
-                    values: v,
-                }),
-                ValuesRead::Refused(r) => PopupRead::Refused(r),
-            },
-            MoreRead::Refused(r) => PopupRead::Refused(r),
-        },
-        HeadRead::Refused(r) => PopupRead::Refused(r),
+    let head = match read_head(s) {
+        HeadRead::Got(head) => head,
+        HeadRead::Refused(r) => return PopupRead::Refused(r),
+    };
+    let more = match read_more(s, head.next) {
+        MoreRead::Got(more) => more,
+        MoreRead::Refused(r) => return PopupRead::Refused(r),
+    };
+    match read_values(s, more.next) {
+        ValuesRead::Got(values) => PopupRead::Got(Places { head, more, values }),
+        ValuesRead::Refused(r) => PopupRead::Refused(r),
     }
 }

@@ -1,13 +1,13 @@
 // 0x22 Screen: popups and the screen commands. The Rust's screen.rs; its texts are in text.rt.
 ghost use mathlib.Core.Path.{_≡_};
 ghost use mathlib.Core.List.{_∷_, []};
-ghost use Prim.Native.Nat.{_≤_};
+ghost use Prim.Native.Nat.{_≤_, _+_};
 ghost use lib.ListN.{length, take};
 ghost use Rattle.codec.specs.Sheet.{got, refused, said, byte, flag};
 ghost use Rattle.codec.specs.Reading.{readItems};
-ghost use Rattle.codec.specs.Writing.{stopRoom, writeBody};
+ghost use Rattle.codec.specs.Writing.{writeBody};
 ghost use Rattle.codec.specs.Refusals.{refusalNumber};
-ghost use Rattle.codec.specs.Told.{Writes, bit, toldNumber, toldFlag, atMost};
+ghost use Rattle.codec.specs.Told.{WritesAll, bit, toldNumber, toldFlag, atMost};
 ghost use Rattle.codec.specs.Taking.{inTurn};
 ghost use Rattle.families.specs.Sheets.{screenRows};
 ghost use Rattle.families.specs.Text.{textOf};
@@ -15,6 +15,7 @@ ghost use Rattle.families.specs.Popup.{readPopup};
 ghost use Rattle.families.specs.Places.{SpanIn, spanned, PlacesIn, popupAt, StoredIs};
 ghost use Rattle.families.specs.Fields.{construct, PopupIs, fieldsOf, blankFields, whole, inspect, isGot, FieldsIs, madePopup};
 ghost use Rattle.families.specs.Screen.{returned, readScreen, ScreenIs, screenBody, startedBy, screenBehind, returnedBy};
+use crate::SUB_COMMAND_LEN;
 use crate::popup::Places;
 use crate::popup::PopupRead;
 use crate::popup::Span;
@@ -22,14 +23,16 @@ use crate::text::CommandString;
 use codec::reader::FlagRead;
 use codec::reader::NumberRead;
 use codec::reader::Reader;
-use codec::reader::Width;
 use codec::refusal::Outcome;
 use codec::refusal::Refusal;
 use codec::writer::Written;
+use codec::writer::bit_of;
+use codec::writer::put_byte;
+use codec::writer::put_bytes;
 
-const SUB_COMMAND_ID_SCREEN_POPUP_MESSAGE_START: u32 = 0x01;
+pub const SUB_COMMAND_ID_SCREEN_POPUP_MESSAGE_START: u8 = 0x01;
 
-const SUB_COMMAND_ID_SCREEN_SELECTION_RETURN_VALUE: u32 = 0x02;
+pub const SUB_COMMAND_ID_SCREEN_SELECTION_RETURN_VALUE: u8 = 0x02;
 
 // "Popup data is at most 55 bytes."
 pub(crate) const MAX_POPUP_DATA_LEN: usize = 55;
@@ -106,10 +109,7 @@ fn return_of(value: u8, response: bool) -> ScreenAnswer
 {
     ScreenAnswer {
         outcome: Outcome::Accepted,
-        command: ScreenCommand::SelectionReturnValue {
-            value: value,
-            response: response,
-        },
+        command: ScreenCommand::SelectionReturnValue { value, response },
         popup: ScreenPopup {
             len: 0,
             bytes: [0u8; 55],
@@ -140,8 +140,8 @@ fn read_start(rest: &[u8]) -> ScreenAnswer
     ensures { λ r. ⌜ ScreenIs (startedBy (readPopup (now (rest .entry)) 0)) r ⌝ }
 {
     match crate::popup::parse(rest) {
-        PopupRead::Got(p) => popup_of(rest, p.values.next),
-        PopupRead::Refused(n) => refused_with(n),
+        PopupRead::Got(places) => popup_of(rest, places.values.next),
+        PopupRead::Refused(r) => refused_with(r),
     }
 }
 
@@ -150,11 +150,11 @@ fn return_by(value: NumberRead, response: FlagRead) -> ScreenAnswer
     ensures { λ r. ⌜ ScreenIs (returnedBy (inTurn (toldNumber value ∷ toldFlag response ∷ []))) r ⌝ }
 {
     match value {
-        NumberRead::Got(v) => match response {
-            FlagRead::Got(f) => return_of(v as u8, f),
-            FlagRead::Refused(n) => refused_with(n),
+        NumberRead::Got(value) => match response {
+            FlagRead::Got(response) => return_of(value as u8, response),
+            FlagRead::Refused(r) => refused_with(r),
         },
-        NumberRead::Refused(n) => refused_with(n),
+        NumberRead::Refused(r) => refused_with(r),
     }
 }
 
@@ -170,15 +170,16 @@ fn read_return(rest: &[u8]) -> ScreenAnswer
 
 // The sub-command is judged before the items behind it are taken.
 fn read_behind(sub: NumberRead, rest: &[u8]) -> ScreenAnswer
+    requires { ⌜ atMost 255 sub ⌝ }
     ensures { λ r. ⌜ ScreenIs (screenBehind (toldNumber sub) (now (rest .entry))) r ⌝ }
 {
     match sub {
-        NumberRead::Got(sub) => match sub {
+        NumberRead::Got(sub) => match sub as u8 {
             SUB_COMMAND_ID_SCREEN_POPUP_MESSAGE_START => read_start(rest),
             SUB_COMMAND_ID_SCREEN_SELECTION_RETURN_VALUE => read_return(rest),
             _ => refused_with(Refusal::InvalidPayload),
         },
-        NumberRead::Refused(n) => refused_with(n),
+        NumberRead::Refused(r) => refused_with(r),
     }
 }
 
@@ -190,43 +191,35 @@ pub fn read(body: &[u8]) -> ScreenAnswer
     read_behind(sub, input.remaining)
 }
 
+// A returned value's body.
+const SELECTION_RETURN_LEN: usize = 3;
+
 fn write_return(value: u8, response: bool, body: &mut [u8]) -> Written
-    ensures { λ r. ⌜ Writes (stopRoom (length (now (body .entry))) 3) (writeBody screenRows (said 0x02 ((value ∷ []) ∷ (bit response ∷ []) ∷ []))) r (now (body .entry)) (now (body .exit)) ⌝ }
+    ensures { λ r. ⌜ WritesAll (writeBody screenRows (said 0x02 ((value ∷ []) ∷ (bit response ∷ []) ∷ []))) r (now (body .entry)) (now (body .exit)) ⌝ }
 {
-    if body.len() < 3 {
+    if body.len() < SELECTION_RETURN_LEN {
         return Written::Refused(Refusal::BufferOverflow);
     }
-    let b = codec::writer::bit_of(response);
-    codec::writer::put_number(
-        body,
-        0,
-        Width::One,
-        SUB_COMMAND_ID_SCREEN_SELECTION_RETURN_VALUE,
-    );
-    codec::writer::put_number(body, 1, Width::One, value as u32);
-    codec::writer::put_number(body, 2, Width::One, b as u32);
-    Written::Count(3)
+    put_byte(body, 0, SUB_COMMAND_ID_SCREEN_SELECTION_RETURN_VALUE);
+    put_byte(body, 1, value);
+    put_byte(body, 2, bit_of(response));
+    Written::Count(SELECTION_RETURN_LEN)
 }
 
 // A popup's bytes as they are.
 fn write_popup(bytes: &[u8], body: &mut [u8]) -> Written
-    ensures { λ r. ⌜ Writes (stopRoom (length (now (body .entry))) (length (0x01 ∷ now (bytes .entry)))) (0x01 ∷ now (bytes .entry)) r (now (body .entry)) (now (body .exit)) ⌝ }
+    ensures { λ r. ⌜ WritesAll (0x01 ∷ now (bytes .entry)) r (now (body .entry)) (now (body .exit)) ⌝ }
 {
     if body.len() <= bytes.len() {
         return Written::Refused(Refusal::BufferOverflow);
     }
-    codec::writer::put_number(
-        body,
-        0,
-        Width::One,
-        SUB_COMMAND_ID_SCREEN_POPUP_MESSAGE_START,
-    );
-    codec::writer::put_bytes(body, 1, bytes);
-    Written::Count(bytes.len() + 1)
+    put_byte(body, 0, SUB_COMMAND_ID_SCREEN_POPUP_MESSAGE_START);
+    put_bytes(body, 1, bytes);
+    Written::Count(bytes.len() + SUB_COMMAND_LEN)
 }
 
 fn write_start(bytes: &[u8], len: usize, body: &mut [u8]) -> Written
-    ensures { λ r. ⌜ Writes (stopRoom (length (now (body .entry))) (length (0x01 ∷ take len (now (bytes .entry))))) (0x01 ∷ take len (now (bytes .entry))) r (now (body .entry)) (now (body .exit)) ⌝ }
+    ensures { λ r. ⌜ WritesAll (0x01 ∷ take len (now (bytes .entry))) r (now (body .entry)) (now (body .exit)) ⌝ }
 {
     if bytes.len() <= len {
         return write_popup(bytes, body);
@@ -236,7 +229,7 @@ fn write_start(bytes: &[u8], len: usize, body: &mut [u8]) -> Written
 
 // `len` bytes stand beside the command; where there are fewer, all of them.
 pub fn write_to(command: ScreenCommand, bytes: &[u8], len: usize, body: &mut [u8]) -> Written
-    ensures { λ r. ⌜ Writes (stopRoom (length (now (body .entry))) (length (screenBody command (take len (now (bytes .entry)))))) (screenBody command (take len (now (bytes .entry)))) r (now (body .entry)) (now (body .exit)) ⌝ }
+    ensures { λ r. ⌜ WritesAll (screenBody command (take len (now (bytes .entry)))) r (now (body .entry)) (now (body .exit)) ⌝ }
 {
     match command {
         ScreenCommand::PopupMessageStart => write_start(bytes, len, body),
@@ -253,7 +246,7 @@ fn whole_popup(s: &[u8], n: usize) -> bool
     ensures { λ r. ⌜ r ≡ isGot (whole n (readPopup (now (s .entry)) 0)) ⌝ }
 {
     match crate::popup::parse(s) {
-        PopupRead::Got(p) => p.values.next == n,
+        PopupRead::Got(places) => places.values.next == n,
         PopupRead::Refused(_) => false,
     }
 }
@@ -279,24 +272,24 @@ impl ScreenPopupFields {
     pub fn blank() -> ScreenPopupFields
         ensures { λ r. ⌜ r ≡ blankFields ⌝ }
     {
-        let t = CommandString {
+        let text = CommandString {
             len: 0,
             bytes: [0u8; 51],
         };
         ScreenPopupFields {
-            header: t,
-            info: t,
+            header: text,
+            info: text,
             max_timeout_interval: 0,
             close_button_option: false,
             additional_data: ScreenAdditionalData::Absent,
-            selection_text: t,
+            selection_text: text,
             value: 0,
             min_value: 0,
             max_value: 0,
             default_value: 0,
-            unit: t,
+            unit: text,
             has_possible_values: false,
-            possible_values: t,
+            possible_values: text,
         }
     }
 }
@@ -310,37 +303,37 @@ fn not_made() -> FieldsAnswer
     }
 }
 
-fn text_of(s: &[u8], x: Span) -> CommandString
-    requires { ⌜ SpanIn (now s) x ⌝ }
-    ensures { λ r. ⌜ r ≡ textOf (spanned (now (s .entry)) x) ⌝ }
+fn text_of(s: &[u8], span: Span) -> CommandString
+    requires { ⌜ SpanIn (now s) span ⌝ }
+    ensures { λ r. ⌜ r ≡ textOf (spanned (now (s .entry)) span) ⌝ }
 {
-    crate::text::text_at(s, x.at, x.len)
+    crate::text::text_at(s, span.at, span.len)
 }
 
 // The fields at the places of a parse.
-fn fields_at(s: &[u8], p: Places) -> ScreenPopupFields
-    requires { ⌜ PlacesIn (now s) 0 p ⌝ }
-    ensures { λ r. ⌜ r ≡ fieldsOf (popupAt (now (s .entry)) p) ⌝ }
+fn fields_at(s: &[u8], places: Places) -> ScreenPopupFields
+    requires { ⌜ PlacesIn (now s) 0 places ⌝ }
+    ensures { λ r. ⌜ r ≡ fieldsOf (popupAt (now (s .entry)) places) ⌝ }
 {
-    let h = p.head;
-    let m = p.more;
-    let v = p.values;
-    let k = m.kind;
-    let f = m.four;
+    let head = places.head;
+    let more = places.more;
+    let values = places.values;
+    let kind = more.kind;
+    let four = more.four;
     ScreenPopupFields {
-        header: text_of(s, h.header),
-        info: text_of(s, h.info),
-        max_timeout_interval: h.timeout,
-        close_button_option: h.close,
-        additional_data: k,
-        selection_text: text_of(s, m.label),
-        value: f.value,
-        min_value: f.min_value,
-        max_value: f.max_value,
-        default_value: f.default_value,
-        unit: text_of(s, m.unit),
-        has_possible_values: v.present,
-        possible_values: text_of(s, v.text),
+        header: text_of(s, head.header),
+        info: text_of(s, head.info),
+        max_timeout_interval: head.timeout,
+        close_button_option: head.close,
+        additional_data: kind,
+        selection_text: text_of(s, more.label),
+        value: four.value,
+        min_value: four.min_value,
+        max_value: four.max_value,
+        default_value: four.default_value,
+        unit: text_of(s, more.unit),
+        has_possible_values: values.present,
+        possible_values: text_of(s, values.text),
     }
 }
 
@@ -348,13 +341,13 @@ fn whole_fields(s: &[u8]) -> FieldsAnswer
     ensures { λ r. ⌜ FieldsIs (whole (length (now (s .entry))) (readPopup (now (s .entry)) 0)) r ⌝ }
 {
     match crate::popup::parse(s) {
-        PopupRead::Got(p) => {
-            if p.values.next != s.len() {
+        PopupRead::Got(places) => {
+            if places.values.next != s.len() {
                 return not_made();
             }
             FieldsAnswer {
                 outcome: Outcome::Accepted,
-                fields: fields_at(s, p),
+                fields: fields_at(s, places),
             }
         }
         PopupRead::Refused(_) => not_made(),
@@ -397,7 +390,18 @@ impl ScreenPopup {
     pub fn fields(self) -> FieldsAnswer
         ensures { λ r. ⌜ FieldsIs (inspect self) r ⌝ }
     {
-        let b = self.bytes;
-        fields_in(&b, self.len)
+        let bytes = self.bytes;
+        fields_in(&bytes, self.len)
+    }
+}
+
+// How many bytes `write_to` writes, counted and not written.
+pub fn written_len(command: ScreenCommand, bytes: &[u8], len: usize) -> usize
+    ensures { λ r. ⌜ r ≡ length (screenBody command (take len (now (bytes .entry)))) ⌝ }
+    ensures { λ r. ⌜ r ≤ length (now (bytes .entry)) + 9 ⌝ }
+{
+    match command {
+        ScreenCommand::PopupMessageStart => crate::text::stored_len(bytes, len) + SUB_COMMAND_LEN,
+        ScreenCommand::SelectionReturnValue { .. } => SELECTION_RETURN_LEN,
     }
 }

@@ -116,7 +116,7 @@ impl CommandString {
             let text = text_at(bytes, 0, bytes.len());
             return TextAnswer {
                 outcome: Outcome::Accepted,
-                text: text,
+                text,
             };
         }
         refused_with(Refusal::InvalidPayload)
@@ -128,4 +128,12 @@ impl CommandString {
         let b = self.bytes;
         made_bytes(&b, self.len, MAX_COMMAND_STRING_LEN)
     }
+}
+
+// How many there are of the first `len` bytes.
+pub(crate) fn stored_len(bytes: &[u8], len: usize) -> usize
+    ensures { λ r. ⌜ r ≡ length (take len (now (bytes .entry))) ⌝ }
+    ensures { λ r. ⌜ r ≤ length (now (bytes .entry)) ⌝ }
+{
+    if bytes.len() < len { bytes.len() } else { len }
 }

@@ -1,19 +1,39 @@
 // 0x08 VTX.
 ghost use mathlib.Core.Bool.{Bool};
 ghost use mathlib.Core.Path.{_≡_};
-ghost use mathlib.Core.List.{_∷_, []};
+ghost use Prim.Native.Nat.{_≤_};
 ghost use lib.ListN.{length};
+ghost use mathlib.Core.List.{_∷_, []};
 ghost use Rattle.codec.specs.Sheet.{said};
 ghost use Rattle.codec.specs.Digits.{join, split};
 ghost use Rattle.codec.specs.Reading.{readBody};
-ghost use Rattle.codec.specs.Writing.{okItem, writeBody, stopValuesFirst};
-ghost use Rattle.codec.specs.Told.{Writes, bit};
+ghost use Rattle.codec.specs.Writing.{okItem, writeBody};
+ghost use Rattle.codec.specs.Told.{WritesValuesFirst, bit};
 ghost use Rattle.families.specs.Sheets.{vtxRows, frequency, pit};
 ghost use Rattle.families.specs.Vtx.{vtxSays, toldVtx};
+use crate::SUB_COMMAND_LEN;
+use crate::WITH_BYTE_LEN;
 use codec::reader::NumberRead;
 use codec::reader::Width;
+use codec::reader::read_byte;
+use codec::reader::read_number;
 use codec::refusal::Refusal;
 use codec::writer::Written;
+use codec::writer::put_byte;
+use codec::writer::put_number;
+use codec::writer::values_first;
+use codec::writer::write_alone;
+use codec::writer::write_with_byte;
+
+pub const SUB_COMMAND_ID_VTX_SET_FREQUENCY: u8 = 0x02;
+
+pub const SUB_COMMAND_ID_VTX_ENABLE_PIT_MODE_ON_POWER_UP: u8 = 0x04;
+
+pub const SUB_COMMAND_ID_VTX_POWER_UP_FROM_PIT_MODE: u8 = 0x05;
+
+pub const SUB_COMMAND_ID_VTX_SET_DYNAMIC_POWER: u8 = 0x06;
+
+pub const SUB_COMMAND_ID_VTX_SET_POWER: u8 = 0x08;
 
 pub enum VtxCommand {
     SetFrequency(u16),
@@ -59,34 +79,35 @@ fn unpacked(byte: u32) -> VtxCommand
 pub fn read(body: &[u8]) -> VtxRead
     ensures { λ r. ⌜ toldVtx r ≡ readBody vtxRows (now (body .entry)) ⌝ }
 {
-    match codec::reader::read_number(body, 0, Width::One, 0, 255) {
-        NumberRead::Got(sub) => match sub {
-            0x02 => match codec::reader::read_number(
-                body,
-                1,
-                Width::Two,
-                LOWEST_FREQUENCY,
-                HIGHEST_FREQUENCY,
-            ) {
-                NumberRead::Got(f) => VtxRead::Got(VtxCommand::SetFrequency(f as u16)),
-                NumberRead::Refused(r) => VtxRead::Refused(r),
-            },
-            0x04 => match codec::reader::read_number(body, 1, Width::One, 0, 255) {
-                NumberRead::Got(byte) => VtxRead::Got(unpacked(byte)),
-                NumberRead::Refused(r) => VtxRead::Refused(r),
-            },
-            0x05 => VtxRead::Got(VtxCommand::PowerUpFromPitMode),
-            0x06 => match codec::reader::read_number(body, 1, Width::One, 0, 255) {
-                NumberRead::Got(p) => VtxRead::Got(VtxCommand::SetDynamicPower(p as u8)),
-                NumberRead::Refused(r) => VtxRead::Refused(r),
-            },
-            0x08 => match codec::reader::read_number(body, 1, Width::One, 0, 255) {
-                NumberRead::Got(p) => VtxRead::Got(VtxCommand::SetPower(p as u8)),
-                NumberRead::Refused(r) => VtxRead::Refused(r),
-            },
-            _ => VtxRead::Refused(Refusal::InvalidPayload),
+    let sub = match read_byte(body, 0) {
+        NumberRead::Got(sub) => sub as u8,
+        NumberRead::Refused(r) => return VtxRead::Refused(r),
+    };
+    match sub {
+        SUB_COMMAND_ID_VTX_SET_FREQUENCY => match read_number(
+            body,
+            1,
+            Width::Two,
+            LOWEST_FREQUENCY,
+            HIGHEST_FREQUENCY,
+        ) {
+            NumberRead::Got(megahertz) => VtxRead::Got(VtxCommand::SetFrequency(megahertz as u16)),
+            NumberRead::Refused(r) => VtxRead::Refused(r),
         },
-        NumberRead::Refused(r) => VtxRead::Refused(r),
+        SUB_COMMAND_ID_VTX_ENABLE_PIT_MODE_ON_POWER_UP => match read_byte(body, 1) {
+            NumberRead::Got(byte) => VtxRead::Got(unpacked(byte)),
+            NumberRead::Refused(r) => VtxRead::Refused(r),
+        },
+        SUB_COMMAND_ID_VTX_POWER_UP_FROM_PIT_MODE => VtxRead::Got(VtxCommand::PowerUpFromPitMode),
+        SUB_COMMAND_ID_VTX_SET_DYNAMIC_POWER => match read_byte(body, 1) {
+            NumberRead::Got(power) => VtxRead::Got(VtxCommand::SetDynamicPower(power as u8)),
+            NumberRead::Refused(r) => VtxRead::Refused(r),
+        },
+        SUB_COMMAND_ID_VTX_SET_POWER => match read_byte(body, 1) {
+            NumberRead::Got(power) => VtxRead::Got(VtxCommand::SetPower(power as u8)),
+            NumberRead::Refused(r) => VtxRead::Refused(r),
+        },
+        _ => VtxRead::Refused(Refusal::InvalidPayload),
     }
 }
 
@@ -102,14 +123,17 @@ fn in_band(f: u32) -> bool
     true
 }
 
+// A frequency's body; that of a pit byte is `WITH_BYTE_LEN`.
+const SET_FREQUENCY_LEN: usize = 3;
+
 fn write_frequency(f: u16, body: &mut [u8]) -> Written
-    ensures { λ r. ⌜ Writes (stopValuesFirst vtxRows (length (now (body .entry))) (said 0x02 ((f ∷ []) ∷ []))) (writeBody vtxRows (said 0x02 ((f ∷ []) ∷ []))) r (now (body .entry)) (now (body .exit)) ⌝ }
+    ensures { λ r. ⌜ WritesValuesFirst vtxRows (said 0x02 ((f ∷ []) ∷ [])) r (now (body .entry)) (now (body .exit)) ⌝ }
 {
     let ok = in_band(f as u32);
-    match codec::writer::values_first(ok, body.len(), 3) {
+    match values_first(ok, body.len(), SET_FREQUENCY_LEN) {
         Written::Count(n) => {
-            codec::writer::put_number(body, 0, Width::One, 0x02);
-            codec::writer::put_number(body, 1, Width::Two, f as u32);
+            put_byte(body, 0, SUB_COMMAND_ID_VTX_SET_FREQUENCY);
+            put_number(body, 1, Width::Two, f as u32);
             Written::Count(n)
         }
         Written::Refused(r) => Written::Refused(r),
@@ -140,14 +164,14 @@ fn packed(mode: bool, control: u8, switch: u8) -> u32
 }
 
 fn write_pit(mode: bool, control: u8, switch: u8, body: &mut [u8]) -> Written
-    ensures { λ r. ⌜ Writes (stopValuesFirst vtxRows (length (now (body .entry))) (said 0x04 ((switch ∷ control ∷ bit mode ∷ []) ∷ []))) (writeBody vtxRows (said 0x04 ((switch ∷ control ∷ bit mode ∷ []) ∷ []))) r (now (body .entry)) (now (body .exit)) ⌝ }
+    ensures { λ r. ⌜ WritesValuesFirst vtxRows (said 0x04 ((switch ∷ control ∷ bit mode ∷ []) ∷ [])) r (now (body .entry)) (now (body .exit)) ⌝ }
 {
     let ok = in_bits(control, switch);
-    match codec::writer::values_first(ok, body.len(), 2) {
+    match values_first(ok, body.len(), WITH_BYTE_LEN) {
         Written::Count(n) => {
             let byte = packed(mode, control, switch);
-            codec::writer::put_number(body, 0, Width::One, 0x04);
-            codec::writer::put_number(body, 1, Width::One, byte);
+            put_byte(body, 0, SUB_COMMAND_ID_VTX_ENABLE_PIT_MODE_ON_POWER_UP);
+            put_number(body, 1, Width::One, byte);
             Written::Count(n)
         }
         Written::Refused(r) => Written::Refused(r),
@@ -155,17 +179,38 @@ fn write_pit(mode: bool, control: u8, switch: u8, body: &mut [u8]) -> Written
 }
 
 pub fn write_to(command: VtxCommand, body: &mut [u8]) -> Written
-    ensures { λ r. ⌜ Writes (stopValuesFirst vtxRows (length (now (body .entry))) (vtxSays command)) (writeBody vtxRows (vtxSays command)) r (now (body .entry)) (now (body .exit)) ⌝ }
+    ensures { λ r. ⌜ WritesValuesFirst vtxRows (vtxSays command) r (now (body .entry)) (now (body .exit)) ⌝ }
 {
     match command {
-        VtxCommand::SetFrequency(f) => write_frequency(f, body),
+        VtxCommand::SetFrequency(megahertz) => write_frequency(megahertz, body),
         VtxCommand::EnablePitModeOnPowerUp {
             pit_mode,
             pit_mode_control,
             pit_mode_switch,
         } => write_pit(pit_mode, pit_mode_control, pit_mode_switch, body),
-        VtxCommand::PowerUpFromPitMode => codec::writer::write_alone(0x05, body),
-        VtxCommand::SetDynamicPower(p) => codec::writer::write_with_byte(0x06, p, body),
-        VtxCommand::SetPower(p) => codec::writer::write_with_byte(0x08, p, body),
+        VtxCommand::PowerUpFromPitMode => write_alone(
+            SUB_COMMAND_ID_VTX_POWER_UP_FROM_PIT_MODE,
+            body,
+        ),
+        VtxCommand::SetDynamicPower(power) => write_with_byte(
+            SUB_COMMAND_ID_VTX_SET_DYNAMIC_POWER,
+            power,
+            body,
+        ),
+        VtxCommand::SetPower(power) => write_with_byte(SUB_COMMAND_ID_VTX_SET_POWER, power, body),
+    }
+}
+
+// How many bytes `write_to` writes, counted and not written.
+pub fn written_len(command: VtxCommand) -> usize
+    ensures { λ r. ⌜ r ≡ length (writeBody vtxRows (vtxSays command)) ⌝ }
+    ensures { λ r. ⌜ r ≤ 9 ⌝ }
+{
+    match command {
+        VtxCommand::SetFrequency(_) => SET_FREQUENCY_LEN,
+        VtxCommand::EnablePitModeOnPowerUp { .. } => WITH_BYTE_LEN,
+        VtxCommand::PowerUpFromPitMode => SUB_COMMAND_LEN,
+        VtxCommand::SetDynamicPower(_) => WITH_BYTE_LEN,
+        VtxCommand::SetPower(_) => WITH_BYTE_LEN,
     }
 }

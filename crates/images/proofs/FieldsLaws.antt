@@ -4,7 +4,7 @@ use mathlib.Core.Bool.{Bool, true, false}
 use mathlib.Core.List.{List, [], _∷_, _++_, append-nil}
 use mathlib.Core.Path.{_≡_, refl, ap, sym, _∙_}
 use native.Mathlib.Omega.{arith}
-use lib.ListN.{length, take, drop, getD, replicate, length-drop, drop-of-length-le, take-append-drop}
+use lib.ListN.{length, take, drop, getD, length-drop, drop-of-length-le, take-append-drop}
 use lib.Seq.{getD-append-add, drop-append-add, take-at, take-all, drop-cons, drop-drop, length-take-le}
 use lib.Dec.{leb, eqb}
 use borrow.Author.Tests.{eq-eqb, ne-eqb, eqb-true, leb-true}
@@ -21,9 +21,9 @@ use Rattle.families.specs.declared.screen.ScreenAdditionalData.{ScreenAdditiona
 use Rattle.families.specs.declared.screen.ScreenAdditionalData.the-variants.{Absent, Empty, Selection}
 use Rattle.families.specs.declared.screen.ScreenPopupFields.{ScreenPopupFields}
 use Rattle.images.specs.Text.{textImage}
-use Rattle.images.specs.Fields.{kindByte, fieldsImage, textAt, kindAt, known, fieldsAt, fieldsFrom}
-use Rattle.images.proofs.TextLaws.{text-size, copied-whole, byte-mod}
-use Rattle.images.proofs.FieldsPut.{fields-size}
+use Rattle.images.specs.Fields.{kindByte, fieldsImage, textAt, kindAt, known, knownAt, fieldsAt, fieldsFrom}
+use Rattle.images.proofs.TextLaws.{text-size, overZeros, copied-whole, byte-mod}
+use Rattle.images.proofs.FieldsPut.{headBytes, fields-size}
 
 -- ---- flags and kinds
 pub kind-back : (k : ScreenAdditionalData) → kindAt (kindByte k) ≡ k
@@ -46,14 +46,14 @@ known-said false false Empty = refl
 known-said false false Selection = refl
 
 -- ---- the ways through reading
-pub from-got : (s : List ℕ) (f : ScreenPopupFields) → length s ≡ 268 → known (getD s 105 0) (getD s 106 0) (getD s 215 0) ≡ true → fieldsAt s ≡ f
+pub from-got : (s : List ℕ) (f : ScreenPopupFields) → length s ≡ 268 → knownAt s ≡ true → fieldsAt s ≡ f
     → fieldsFrom s ≡ got f
 from-got s f l k e = rw (eq-eqb (length s) 268 l, k) (ap (λ (x : ScreenPopupFields). got x) e)
 
 pub from-short : (s : List ℕ) → (length s ≡ 268 → ⊥) → fieldsFrom s ≡ refused 5 0
 from-short s h = rw (ne-eqb (length s) 268 h)
 
-pub from-unknown : (s : List ℕ) → length s ≡ 268 → known (getD s 105 0) (getD s 106 0) (getD s 215 0) ≡ false → fieldsFrom s ≡ refused 5 0
+pub from-unknown : (s : List ℕ) → length s ≡ 268 → knownAt s ≡ false → fieldsFrom s ≡ refused 5 0
 from-unknown s l k = rw (eq-eqb (length s) 268 l, k)
 
 -- ---- a text at a place of its image
@@ -118,7 +118,7 @@ module _ (f : ScreenPopupFields) (z : Sized f) (r : Short f) where
 
   behind-label : (n : ℕ) → getD (behindInfo f) (3 + (52 + n)) 0 ≡ getD (behindLabel f) n 0
   behind-label n =
-      getD-past (f .«max_timeout_interval» ∷ bit (f .«close_button_option») ∷ kindByte (f .«additional_data») ∷ []) (textImage (f .«selection_text») ++ behindLabel f) 3 (52 + n) refl
+      getD-past (headBytes f) (textImage (f .«selection_text») ++ behindLabel f) 3 (52 + n) refl
       ∙ getD-past (textImage (f .«selection_text»)) (behindLabel f) 52 n (text-size (f .«selection_text») (z .1 .1 .0))
 
   number-at : (n : ℕ) → getD (fieldsImage f) (52 + (52 + (3 + (52 + n)))) 0 ≡ getD (behindLabel f) n 0
@@ -169,11 +169,11 @@ module _ (f : ScreenPopupFields) (z : Sized f) (r : Short f) where
   pub fields-back : fieldsFrom (fieldsImage f) ≡ got f
   fields-back =
       let s = fieldsImage f in
-      let k : known (getD s 105 0) (getD s 106 0) (getD s 215 0) ≡ true =
-      known-at (getD s 105 0) (getD s 106 0) (getD s 215 0) (behind-info 1) (behind-info 2) present-at in
+      let k : knownAt s ≡ true = known-at (getD s 105 0) (getD s 106 0) (getD s 215 0) (behind-info 1) (behind-info 2) present-at in
       from-got s f (fields-size f z) k at-back
     where
-      known-at : (a b c : ℕ) → a ≡ bit (f .«close_button_option») → b ≡ kindByte (f .«additional_data») → c ≡ bit (f .«has_possible_values») → known a b c ≡ true
+      known-at : (a b c : ℕ) → a ≡ bit (f .«close_button_option») → b ≡ kindByte (f .«additional_data») → c ≡ bit (f .«has_possible_values»)
+          → known a b c ≡ true
       known-at a b c e g h = rw (e, g, h) (known-said (f .«close_button_option») (f .«has_possible_values») (f .«additional_data»))
 
 -- ---- from an image to its fields and back
@@ -210,7 +210,7 @@ last-text s b l =
 text-on : (s r : List ℕ) (at e : ℕ) → Bytes s → at + 52 ≤ length s → e ≡ at + 52 → r ≡ drop e s → textImage (textAt s at) ++ r ≡ drop at s
 text-on s r at e b h g q = ap (λ (x : List ℕ). textImage (textAt s at) ++ x) q ∙ text-next s at e b h g
 
-at-forth : (s : List ℕ) → Bytes s → length s ≡ 268 → known (getD s 105 0) (getD s 106 0) (getD s 215 0) ≡ true → fieldsImage (fieldsAt s) ≡ s
+at-forth : (s : List ℕ) → Bytes s → length s ≡ 268 → knownAt s ≡ true → fieldsImage (fieldsAt s) ≡ s
 at-forth s b l k =
     let p = both (leb (getD s 105 0) 1) (pick (leb (getD s 106 0) 2) (leb (getD s 215 0) 1) false) k in
     let q = both (leb (getD s 106 0) 2) (leb (getD s 215 0) 1) (p .1) in
@@ -229,9 +229,9 @@ at-forth s b l k =
     (last-text s b l))))))))))))
 
 pub fields-forth : (s : List ℕ) (f : ScreenPopupFields) → Bytes s → fieldsFrom s ≡ got f → fieldsImage f ≡ s
-fields-forth s f b = by (eqb (length s) 268) (known (getD s 105 0) (getD s 106 0) (getD s 215 0)) refl refl
+fields-forth s f b = by (eqb (length s) 268) (knownAt s) refl refl
   where
-    by : (t u : Bool) → eqb (length s) 268 ≡ t → known (getD s 105 0) (getD s 106 0) (getD s 215 0) ≡ u
+    by : (t u : Bool) → eqb (length s) 268 ≡ t → knownAt s ≡ u
         → pick t (pick u (got (fieldsAt s)) (refused 5 0)) (refused 5 0) ≡ got f → fieldsImage f ≡ s
     by true true e k h =
         let g : f ≡ fieldsAt s = cc in
@@ -241,8 +241,7 @@ fields-forth s f b = by (eqb (length s) 268) (known (getD s 105 0) (getD s 106 0
 
 -- ---- what the functions answer
 pub text-copied : (s : List ℕ) (at : ℕ) (b : List ℕ) → at + 52 ≤ length s
-    → b ≡ take (length (take (at + 52 - (at + 1)) (drop (at + 1) s))) (take (at + 52 - (at + 1)) (drop (at + 1) s)) ++ drop (length (take (at + 52 - (at + 1)) (drop (at + 1) s))) (replicate 51 0)
-    → record { len = getD s at 0; bytes = b } ≡ textAt s at
+    → b ≡ overZeros (take (at + 52 - (at + 1)) (drop (at + 1) s)) 51 → record { len = getD s at 0; bytes = b } ≡ textAt s at
 text-copied s at b h e =
     let k : at + 52 - (at + 1) ≡ 51 = omega arith in
     let d : 51 ≤ length (drop (at + 1) s) = rw length-drop (omega arith) in
@@ -267,8 +266,9 @@ pub fields-are : (s : List ℕ) (h i l u v : CommandString) (k : ScreenAdditiona
       «possible_values» = v;
     }) (fieldsAt s)
 fields-are s h i l u v k e1 e2 e3 e4 e5 e6 =
-    fields-same (fieldsAt s) h i l u v (getD s 104 0) (getD s 159 0) (getD s 160 0) (getD s 161 0) (getD s 162 0) (eqb (getD s 105 0) 1) (eqb (getD s 215 0) 1) k
-    e1 e2 refl refl e6 e3 refl refl refl refl e4 refl e5
+    fields-same (fieldsAt s) h i l u v (getD s 104 0) (getD s 159 0) (getD s 160 0) (getD s 161 0) (getD s 162 0)
+    (eqb (getD s 105 0) 1) (eqb (getD s 215 0) 1) k e1 e2 refl refl e6 e3 refl refl refl refl e4 refl e5
 
-pub fields-told : (s : List ℕ) (f : ScreenPopupFields) → fieldsFrom s ≡ got (fieldsAt s) → f ≡ fieldsAt s → FieldsIs (fieldsFrom s) (record { outcome = Accepted; fields = f })
+pub fields-told : (s : List ℕ) (f : ScreenPopupFields) → fieldsFrom s ≡ got (fieldsAt s) → f ≡ fieldsAt s
+    → FieldsIs (fieldsFrom s) (record { outcome = Accepted; fields = f })
 fields-told s f e g = rw e (refl, g)

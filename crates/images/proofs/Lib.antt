@@ -1,8 +1,10 @@
 pub mod TextLaws
+pub mod WordLaws
 pub mod AckLaws
 pub mod PopupLaws
 pub mod FieldsPut
 pub mod FieldsLaws
+pub mod AnyTwo
 pub mod OneAnswerImages
 pub mod RecordLaws
 pub mod RuledOut

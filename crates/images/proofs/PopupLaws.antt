@@ -1,10 +1,10 @@
 -- A popup and its image are each other's. Assumes nothing.
 use Prim.Native.Nat.{ℕ, suc, _-_, _%_, _<_}
 use mathlib.Core.Bool.{Bool, true, false}
-use mathlib.Core.List.{List, [], _∷_, _++_}
+use mathlib.Core.List.{List, [], _∷_}
 use mathlib.Core.Path.{_≡_, refl, ap, _∙_}
 use native.Mathlib.Omega.{arith}
-use lib.ListN.{length, take, drop, getD, replicate, length-drop}
+use lib.ListN.{length, take, drop, getD, length-drop}
 use lib.Dec.{eqb}
 use borrow.Author.Tests.{eq-eqb, ne-eqb, eqb-true}
 use Rattle.codec.specs.Pick.{pick}
@@ -15,7 +15,7 @@ use Rattle.families.specs.Fields.{PopupIs, popupOf}
 use Rattle.families.specs.declared.screen.ScreenPopup.{ScreenPopup}
 use Rattle.families.proofs.Stored.{rest-is}
 use Rattle.images.specs.Popup.{popupImage, popupFrom}
-use Rattle.images.proofs.TextLaws.{copied-whole, byte-mod}
+use Rattle.images.proofs.TextLaws.{overZeros, copied-whole, byte-mod}
 
 pub popup-size : (q : ScreenPopup) → length (q .bytes) ≡ 55 → length (popupImage q) ≡ 56
 popup-size q l = ap suc l
@@ -42,7 +42,7 @@ pub popup-none : (s : List ℕ) → (length s ≡ 56 → ⊥) → PopupIs (popup
 popup-none s h = rw (ne-eqb (length s) 56 h) (refl, refl)
 
 pub popup-got : (s b : List ℕ) → length s ≡ 56
-    → b ≡ take (length (take (length s - 1) (drop 1 s))) (take (length s - 1) (drop 1 s)) ++ drop (length (take (length s - 1) (drop 1 s))) (replicate 55 0)
+    → b ≡ overZeros (take (length s - 1) (drop 1 s)) 55
     → PopupIs (popupFrom s) (record { outcome = Accepted; popup = record { len = getD s 0 0; bytes = b } })
 popup-got s b l e =
     let r = rest-is s 1 in

@@ -4,7 +4,7 @@ use mathlib.Core.Bool.{Bool, true, false}
 use mathlib.Core.List.{List, _∷_, _++_}
 use mathlib.Core.Path.{_≡_, refl, ap, sym, _∙_}
 use native.Mathlib.Omega.{arith}
-use lib.ListN.{length, take, drop, getD, set, replicate, length-set, length-append, length-drop, take-append-drop}
+use lib.ListN.{length, take, drop, getD, set, length-set, length-append, length-drop, take-append-drop}
 use lib.Seq.{sets, drop-cons, drop-drop, length-take-le, getD-at, drop-append-add}
 use lib.Dec.{eqb}
 use borrow.Author.Tests.{eq-eqb, ne-eqb}
@@ -39,7 +39,7 @@ use Rattle.commands.specs.declared.CommandAnswer.{CommandAnswer}
 use Rattle.images.specs.Text.{stored}
 use Rattle.images.specs.Values.{payloadLaid, wordAt, longAt, payloadAt}
 use Rattle.images.specs.Record.{recordImage, recordAt, recordFrom}
-use Rattle.images.proofs.TextLaws.{front-put, copied-whole, byte-mod}
+use Rattle.images.proofs.TextLaws.{overZeros, front-put, copied-whole, byte-mod}
 use Rattle.families.proofs.ScreenLaws.{bit-is}
 
 -- a number of four bytes is two of two
@@ -181,7 +181,7 @@ pub told : (a b : Answer DirectCommands) (r : CommandAnswer) → a ≡ b → Com
 told a b r e h = rw e h
 
 pub record-got : (s x : List ℕ) (p : CommandPayload) → length s ≡ 70 → p ≡ payloadAt s → recordFrom s ≡ got (recordAt s)
-    → x ≡ take (length (take (length s - 15) (drop 15 s))) (take (length s - 15) (drop 15 s)) ++ drop (length (take (length s - 15) (drop 15 s))) (replicate 55 0)
+    → x ≡ overZeros (take (length s - 15) (drop 15 s)) 55
     → CommandIs (recordFrom s)
     (record { outcome = Accepted; command = record { «dst_addr» = getD s 0 0; «src_addr» = getD s 1 0; payload = p; len = getD s 14 0; bytes = x } })
 record-got s x p l e h f =

@@ -7,6 +7,10 @@ use mathlib.Core.Path.{_≡_, refl}
 use lib.ListN.{take, drop, replicate}
 use Rattle.codec.specs.Sheet.{got, refused}
 use Rattle.codec.specs.Writing.{putAt}
+use Rattle.codec.specs.Refusals.{refusalNumber}
+use Rattle.codec.specs.Told.{toldWritten}
+use Rattle.codec.specs.declared.refusal.Refusal.the-variants.{BufferOverflow}
+use Rattle.codec.specs.declared.writer.Written.the-variants.{Count}
 use Rattle.families.specs.Text.{padded, textOf}
 use Rattle.families.specs.Ack.{ackWith}
 use Rattle.families.specs.Popup.{popup}
@@ -14,13 +18,23 @@ use Rattle.families.specs.Fields.{popupOf, fieldsOf, blankFields}
 use Rattle.families.specs.declared.screen.ScreenAdditionalData.the-variants.{Selection}
 use Rattle.commands.specs.Command.{blankCommand}
 use Rattle.images.specs.Text.{textImage}
+use Rattle.images.specs.Word.{word, answerWord}
 use Rattle.images.specs.Ack.{ackImage}
 use Rattle.images.specs.Popup.{popupImage, popupFrom}
 use Rattle.images.specs.Fields.{fieldsImage}
 use Rattle.images.specs.Values.{payloadLaid, payloadAt}
 use Rattle.images.specs.Record.{recordImage, recordFrom}
 
--- ---- text::put
+-- ---- word::refused (and must-fail/always_two)
+-- the number stands in bits 0-7
+pub word-refused : word (refusalNumber BufferOverflow) 0 0 ≡ 3
+word-refused = refl
+
+-- ---- word::written (and must-fail/count_of_place, count_in_low_bits)
+pub word-written : answerWord (toldWritten (Count 5)) ≡ 0x500
+word-written = refl
+
+-- ---- stored::put, of a text
 -- no image is half put
 pub text-no-room : putAt (replicate 51 7) 0 (textImage (textOf (0x41 ∷ []))) ≡ replicate 51 7
 text-no-room = refl
@@ -59,7 +73,9 @@ pub fields-no-room : putAt (replicate 267 7) 0 (fieldsImage blankFields) ≡ rep
 fields-no-room = refl
 
 -- a timeout of 9, close on, a selection: in this order, behind the two texts
-pub fields-put : take 3 (drop 104 (putAt (replicate 268 7) 0 (fieldsImage (fieldsOf (popup Selection false ([] ∷ [] ∷ (9 ∷ []) ∷ (1 ∷ []) ∷ [])))))) ≡ 9 ∷ 1 ∷ 2 ∷ []
+pub fields-put : take 3
+    (drop 104 (putAt (replicate 268 7) 0
+    (fieldsImage (fieldsOf (popup Selection false ([] ∷ [] ∷ (9 ∷ []) ∷ (1 ∷ []) ∷ [])))))) ≡ 9 ∷ 1 ∷ 2 ∷ []
 fields-put = refl
 
 -- ---- record::put (and must-fail/saturation_and_value)

@@ -26,8 +26,11 @@ front-not s w n l h = sym (put-not s 0 w (omega arith))
 pub put-kept : (s s' w : List ℕ) → s' ≡ putAt s 0 w → length s' ≡ length s
 put-kept s s' w e = ap length e ∙ length-put s 0 w
 
--- so many bytes, copied over as many zeros
-pub copied-whole : (x : List ℕ) (n : ℕ) → length x ≡ n → take (length x) x ++ drop (length x) (replicate n 0) ≡ x
+-- bytes copied over n zeros; over as many as they are
+abbrev pub overZeros : List ℕ → ℕ → List ℕ
+overZeros x n = take (length x) x ++ drop (length x) (replicate n 0)
+
+pub copied-whole : (x : List ℕ) (n : ℕ) → length x ≡ n → overZeros x n ≡ x
 copied-whole x n e =
     let l : length {A = ℕ} (replicate n 0) ≤ length x = rw length-replicate (omega arith) in
     rw (take-length x, drop-of-length-le (replicate n 0) l) (append-nil x)

@@ -1,7 +1,7 @@
 -- The C boundary's image of a popup's fields (include/crsf.h). Assumes nothing.
 use Prim.Native.Nat.{ℕ, _+_}
 use mathlib.Core.Bool.{Bool, false}
-use mathlib.Core.List.{List, _∷_, _++_}
+use mathlib.Core.List.{List, [], _∷_, _++_}
 use lib.ListN.{length, take, drop, getD}
 use lib.Dec.{leb, eqb}
 use Rattle.codec.specs.Pick.{pick}
@@ -37,6 +37,13 @@ fieldsImage f =
     ++ (bit (f .«has_possible_values»)
     ∷ textImage (f .«possible_values»)))))))
 
+-- its parts: header to kind; label to unit
+abbrev pub headImage : CommandString → CommandString → ℕ → Bool → ScreenAdditionalData → List ℕ
+headImage header info timeout close kind = textImage header ++ (textImage info ++ timeout ∷ bit close ∷ kindByte kind ∷ [])
+
+abbrev pub selectionImage : CommandString → ℕ → ℕ → ℕ → ℕ → CommandString → List ℕ
+selectionImage label value lowest highest default unit = textImage label ++ ((value ∷ lowest ∷ highest ∷ default ∷ []) ++ textImage unit)
+
 -- AN IMAGE HANDED IN: each part at its place
 abbrev pub textAt : List ℕ → ℕ → CommandString
 textAt s at = record { len = getD s at 0; bytes = take 51 (drop (at + 1) s) }
@@ -65,9 +72,12 @@ fieldsAt s = record {
 abbrev pub known : ℕ → ℕ → ℕ → Bool
 known close kind present = pick (leb close 1) (pick (leb kind 2) (leb present 1) false) false
 
+abbrev pub knownAt : List ℕ → Bool
+knownAt s = known (getD s 105 0) (getD s 106 0) (getD s 215 0)
+
 -- another length is 5, and so is a flag or kind out of range
 abbrev pub fieldsFrom : List ℕ → Answer ScreenPopupFields
 fieldsFrom s =
     pick (eqb (length s) 268)
-    (pick (known (getD s 105 0) (getD s 106 0) (getD s 215 0)) (got (fieldsAt s)) (refused 5 0))
+    (pick (knownAt s) (got (fieldsAt s)) (refused 5 0))
     (refused 5 0)

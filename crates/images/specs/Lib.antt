@@ -1,4 +1,5 @@
 pub mod Text
+pub mod Word
 pub mod Ack
 pub mod Popup
 pub mod Fields

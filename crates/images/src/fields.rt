@@ -1,6 +1,6 @@
 // The image of a popup's fields.
 ghost use mathlib.Core.Path.{_≡_};
-ghost use mathlib.Core.List.{_∷_, [], _++_};
+ghost use mathlib.Core.List.{_∷_};
 ghost use Prim.Native.Nat.{_+_, _≤_};
 ghost use lib.ListN.{length};
 ghost use lib.Seq.{sets};
@@ -9,7 +9,10 @@ ghost use Rattle.codec.specs.Writing.{putAt};
 ghost use Rattle.codec.specs.Told.{bit};
 ghost use Rattle.families.specs.Fields.{FieldsIs};
 ghost use Rattle.images.specs.Text.{textImage};
-ghost use Rattle.images.specs.Fields.{kindByte, fieldsImage, textAt, kindAt, known, fieldsAt, fieldsFrom};
+ghost use Rattle.images.specs.Fields.{kindByte, headImage, selectionImage, fieldsImage, textAt, kindAt, known, fieldsAt, fieldsFrom};
+use crate::stored::TEXT_BYTES;
+use crate::stored::TEXT_SIZE;
+use codec::reader::MAX_COMMAND_STRING_LEN;
 use codec::refusal::Outcome;
 use codec::refusal::Refusal;
 use families::screen::FieldsAnswer;
@@ -17,155 +20,196 @@ use families::screen::ScreenAdditionalData;
 use families::screen::ScreenPopupFields;
 use families::text::CommandString;
 
-pub const SIZE: usize = 268;
+// Where its parts stand, and its size, in include/crsf.h's words.
+const FIELDS_HEADER: usize = 0;
 
-fn kind_byte(k: ScreenAdditionalData) -> u8
-    ensures { λ r. ⌜ r ≡ kindByte k ⌝ }
+const FIELDS_INFO: usize = 52;
+
+const FIELDS_TIMEOUT: usize = 104;
+
+const FIELDS_CLOSE: usize = 105;
+
+const FIELDS_ADDITIONAL: usize = 106;
+
+const FIELDS_LABEL: usize = 107;
+
+const FIELDS_VALUE: usize = 159;
+
+const FIELDS_MIN: usize = 160;
+
+const FIELDS_MAX: usize = 161;
+
+const FIELDS_DEFAULT: usize = 162;
+
+const FIELDS_UNIT: usize = 163;
+
+const FIELDS_HAS_POSSIBLE_VALUES: usize = 215;
+
+const FIELDS_POSSIBLE_VALUES: usize = 216;
+
+pub const FIELDS_SIZE: usize = 268;
+
+// Whether there is additional data, and which.
+const ADDITIONAL_ABSENT: u8 = 0;
+
+const ADDITIONAL_EMPTY: u8 = 1;
+
+const ADDITIONAL_SELECTION: u8 = 2;
+
+fn kind_byte(kind: ScreenAdditionalData) -> u8
+    ensures { λ r. ⌜ r ≡ kindByte kind ⌝ }
 {
-    match k {
-        ScreenAdditionalData::Absent => 0,
-        ScreenAdditionalData::Empty => 1,
-        ScreenAdditionalData::Selection => 2,
+    match kind {
+        ScreenAdditionalData::Absent => ADDITIONAL_ABSENT,
+        ScreenAdditionalData::Empty => ADDITIONAL_EMPTY,
+        ScreenAdditionalData::Selection => ADDITIONAL_SELECTION,
     }
 }
 
 // A text's image at a place that has room for it.
-fn put_text(out: &mut [u8], at: usize, t: CommandString)
+fn put_text(out: &mut [u8], at: usize, text: CommandString)
     requires { ⌜ at + 52 ≤ length (now out) ⌝ }
-    ensures { λ r. ⌜ now (out .exit) ≡ sets (now (out .entry)) at (textImage t) ⌝ }
+    ensures { λ r. ⌜ now (out .exit) ≡ sets (now (out .entry)) at (textImage text) ⌝ }
 {
-    let b = t.bytes;
-    crate::stored::put_at(out, at, t.len, &b);
+    let stored = text.bytes;
+    crate::stored::put_at(out, at, text.len, &stored);
 }
 
 // Header, info, timeout, close, additional.
 fn put_head(
     out: &mut [u8],
-    h: CommandString,
-    i: CommandString,
-    time: u8,
+    header: CommandString,
+    info: CommandString,
+    timeout: u8,
     close: bool,
-    k: ScreenAdditionalData,
+    kind: ScreenAdditionalData,
 )
     requires { ⌜ 268 ≤ length (now out) ⌝ }
-    ensures { λ r. ⌜ now (out .exit) ≡ sets (now (out .entry)) 0 (textImage h ++ (textImage i ++ time ∷ bit close ∷ kindByte k ∷ [])) ⌝ }
+    ensures { λ r. ⌜ now (out .exit) ≡ sets (now (out .entry)) 0 (headImage header info timeout close kind) ⌝ }
 {
-    let three = [time, codec::writer::bit_of(close), kind_byte(k)];
-    put_text(out, 0, h);
-    put_text(out, 52, i);
-    codec::writer::put_bytes(out, 104, &three);
+    let three = [timeout, codec::writer::bit_of(close), kind_byte(kind)];
+    put_text(out, FIELDS_HEADER, header);
+    put_text(out, FIELDS_INFO, info);
+    codec::writer::put_bytes(out, FIELDS_TIMEOUT, &three);
 }
 
 // Label, value, min, max, default, unit.
 fn put_selection(
     out: &mut [u8],
-    l: CommandString,
+    label: CommandString,
     value: u8,
     min_value: u8,
     max_value: u8,
     default_value: u8,
-    u: CommandString,
+    unit: CommandString,
 )
     requires { ⌜ 268 ≤ length (now out) ⌝ }
-    ensures { λ r. ⌜ now (out .exit) ≡ sets (now (out .entry)) 107 (textImage l ++ ((value ∷ «min_value» ∷ «max_value» ∷ «default_value» ∷ []) ++ textImage u)) ⌝ }
+    ensures { λ r. ⌜ now (out .exit) ≡ sets (now (out .entry)) 107
+        (selectionImage label value «min_value» «max_value» «default_value» unit) ⌝ }
 {
     let four = [value, min_value, max_value, default_value];
-    put_text(out, 107, l);
-    codec::writer::put_bytes(out, 159, &four);
-    put_text(out, 163, u);
+    put_text(out, FIELDS_LABEL, label);
+    codec::writer::put_bytes(out, FIELDS_VALUE, &four);
+    put_text(out, FIELDS_UNIT, unit);
 }
 
 // Possible values: present, text.
-fn put_values(out: &mut [u8], present: bool, v: CommandString)
+fn put_values(out: &mut [u8], present: bool, values: CommandString)
     requires { ⌜ 268 ≤ length (now out) ⌝ }
-    ensures { λ r. ⌜ now (out .exit) ≡ sets (now (out .entry)) 215 (bit present ∷ textImage v) ⌝ }
+    ensures { λ r. ⌜ now (out .exit) ≡ sets (now (out .entry)) 215 (bit present ∷ textImage values) ⌝ }
 {
-    out[215] = codec::writer::bit_of(present);
-    put_text(out, 216, v);
+    out[FIELDS_HAS_POSSIBLE_VALUES] = codec::writer::bit_of(present);
+    put_text(out, FIELDS_POSSIBLE_VALUES, values);
 }
 
 // The image at the front, where all of it has room.
-pub fn put(f: ScreenPopupFields, out: &mut [u8])
-    ensures { λ r. ⌜ now (out .exit) ≡ putAt (now (out .entry)) 0 (fieldsImage f) ⌝ }
+pub fn put(fields: ScreenPopupFields, out: &mut [u8])
+    ensures { λ r. ⌜ now (out .exit) ≡ putAt (now (out .entry)) 0 (fieldsImage fields) ⌝ }
 {
-    if out.len() < SIZE {
+    if out.len() < FIELDS_SIZE {
         return;
     }
-    let h = f.header;
-    let i = f.info;
-    let k = f.additional_data;
-    put_head(out, h, i, f.max_timeout_interval, f.close_button_option, k);
-    let l = f.selection_text;
-    let u = f.unit;
+    let header = fields.header;
+    let info = fields.info;
+    let kind = fields.additional_data;
+    put_head(
+        out,
+        header,
+        info,
+        fields.max_timeout_interval,
+        fields.close_button_option,
+        kind,
+    );
+    let label = fields.selection_text;
+    let unit = fields.unit;
     put_selection(
         out,
-        l,
-        f.value,
-        f.min_value,
-        f.max_value,
-        f.default_value,
-        u,
+        label,
+        fields.value,
+        fields.min_value,
+        fields.max_value,
+        fields.default_value,
+        unit,
     );
-    let v = f.possible_values;
-    put_values(out, f.has_possible_values, v);
+    let values = fields.possible_values;
+    put_values(out, fields.has_possible_values, values);
 }
 
-fn text_at(s: &[u8], at: usize) -> CommandString
-    requires { ⌜ at + 52 ≤ length (now s) ⌝ }
-    ensures { λ r. ⌜ r ≡ textAt (now (s .entry)) at ⌝ }
+fn text_at(image: &[u8], at: usize) -> CommandString
+    requires { ⌜ at + 52 ≤ length (now image) ⌝ }
+    ensures { λ r. ⌜ r ≡ textAt (now (image .entry)) at ⌝ }
 {
-    let mut out = [0u8; 51];
-    let a = at + 1;
-    let e = at + 52;
-    bytes::copy(&s[a..e], &mut out);
+    let mut stored = [0u8; MAX_COMMAND_STRING_LEN];
+    let start = at + TEXT_BYTES;
+    let end = at + TEXT_SIZE;
+    bytes::copy(&image[start..end], &mut stored);
     CommandString {
-        len: s[at] as usize,
-        bytes: out,
+        len: image[at] as usize,
+        bytes: stored,
     }
 }
 
-fn kind_at(b: u8) -> ScreenAdditionalData
-    ensures { λ r. ⌜ r ≡ kindAt b ⌝ }
+fn kind_at(byte: u8) -> ScreenAdditionalData
+    ensures { λ r. ⌜ r ≡ kindAt byte ⌝ }
 {
-    if b == 0 {
-        return ScreenAdditionalData::Absent;
+    match byte {
+        ADDITIONAL_ABSENT => ScreenAdditionalData::Absent,
+        ADDITIONAL_EMPTY => ScreenAdditionalData::Empty,
+        _ => ScreenAdditionalData::Selection,
     }
-    if b == 1 {
-        return ScreenAdditionalData::Empty;
-    }
-    ScreenAdditionalData::Selection
 }
 
 // Whether flags and kind are in range.
 fn in_range(close: u8, kind: u8, present: u8) -> bool
     ensures { λ r. ⌜ r ≡ known close kind present ⌝ }
 {
-    if close <= 1 {
-        if kind <= 2 {
-            return present <= 1;
-        }
+    if 1 < close {
+        return false;
     }
-    false
+    if ADDITIONAL_SELECTION < kind {
+        return false;
+    }
+    present <= 1
 }
 
-fn fields_at(s: &[u8]) -> ScreenPopupFields
-    requires { ⌜ 268 ≤ length (now s) ⌝ }
-    ensures { λ r. ⌜ r ≡ fieldsAt (now (s .entry)) ⌝ }
+fn fields_at(image: &[u8]) -> ScreenPopupFields
+    requires { ⌜ 268 ≤ length (now image) ⌝ }
+    ensures { λ r. ⌜ r ≡ fieldsAt (now (image .entry)) ⌝ }
 {
     ScreenPopupFields {
-        header: text_at(s, 0),
-        info: text_at(s, 52),
-        max_timeout_interval: s[104],
-        close_button_option: s[105] == 1,
-        additional_data: kind_at(s[106]),
-        selection_text: text_at(s, 107),
-        value: s[159],
-        min_value: s[160],
-        max_value: s[161],
-        default_value: s[162],
-        unit: text_at(s, 163),
-        has_possible_values: s[215] == 1,
-        possible_values: text_at(s, 216),
+        header: text_at(image, FIELDS_HEADER),
+        info: text_at(image, FIELDS_INFO),
+        max_timeout_interval: image[FIELDS_TIMEOUT],
+        close_button_option: image[FIELDS_CLOSE] == 1,
+        additional_data: kind_at(image[FIELDS_ADDITIONAL]),
+        selection_text: text_at(image, FIELDS_LABEL),
+        value: image[FIELDS_VALUE],
+        min_value: image[FIELDS_MIN],
+        max_value: image[FIELDS_MAX],
+        default_value: image[FIELDS_DEFAULT],
+        unit: text_at(image, FIELDS_UNIT),
+        has_possible_values: image[FIELDS_HAS_POSSIBLE_VALUES] == 1,
+        possible_values: text_at(image, FIELDS_POSSIBLE_VALUES),
     }
 }
 
@@ -183,10 +227,14 @@ fn not_made() -> FieldsAnswer
 pub fn from(image: &[u8]) -> FieldsAnswer
     ensures { λ r. ⌜ FieldsIs (fieldsFrom (now (image .entry))) r ⌝ }
 {
-    if image.len() != SIZE {
+    if image.len() != FIELDS_SIZE {
         return not_made();
     }
-    if in_range(image[105], image[106], image[215]) {
+    if in_range(
+        image[FIELDS_CLOSE],
+        image[FIELDS_ADDITIONAL],
+        image[FIELDS_HAS_POSSIBLE_VALUES],
+    ) {
         return FieldsAnswer {
             outcome: Outcome::Accepted,
             fields: fields_at(image),

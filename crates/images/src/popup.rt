@@ -1,5 +1,4 @@
 // The image of a popup, which is that of its stored bytes.
-ghost use mathlib.Core.Path.{_≡_};
 ghost use Rattle.families.specs.Fields.{PopupIs};
 ghost use Rattle.images.specs.Popup.{popupFrom};
 use codec::refusal::Outcome;
@@ -7,25 +6,35 @@ use codec::refusal::Refusal;
 use families::screen::PopupAnswer;
 use families::screen::ScreenPopup;
 
-pub const SIZE: usize = 56;
+// Where its parts stand, and its size, in include/crsf.h's words.
+const POPUP_LENGTH: usize = 0;
+
+const POPUP_BYTES: usize = 1;
+
+pub const POPUP_SIZE: usize = 56;
+
+const STORED: usize = POPUP_SIZE - POPUP_BYTES;
 
 // The popup of an image; of other bytes 5, and the blank one.
 pub fn from(image: &[u8]) -> PopupAnswer
     ensures { λ r. ⌜ PopupIs (popupFrom (now (image .entry))) r ⌝ }
 {
-    let mut out = [0u8; 55];
-    if image.len() != SIZE {
+    let mut stored = [0u8; STORED];
+    if image.len() != POPUP_SIZE {
         return PopupAnswer {
             outcome: Outcome::Refused(Refusal::RecordNotMade),
-            popup: ScreenPopup { len: 0, bytes: out },
+            popup: ScreenPopup {
+                len: 0,
+                bytes: stored,
+            },
         };
     }
-    bytes::copy(&image[1..], &mut out);
+    bytes::copy(&image[POPUP_BYTES..], &mut stored);
     PopupAnswer {
         outcome: Outcome::Accepted,
         popup: ScreenPopup {
-            len: image[0] as usize,
-            bytes: out,
+            len: image[POPUP_LENGTH] as usize,
+            bytes: stored,
         },
     }
 }

@@ -15,32 +15,49 @@ use commands::CommandAnswer;
 use commands::DirectCommands;
 use families::payload::CommandPayload;
 
-pub const SIZE: usize = 70;
+// Where its parts stand, and its size, in include/crsf.h's words.
+const RECORD_DESTINATION: usize = 0;
+
+const RECORD_SOURCE: usize = 1;
+
+pub(crate) const RECORD_ID: usize = 2;
+
+pub(crate) const RECORD_SUB_COMMAND: usize = 3;
+
+pub(crate) const RECORD_VALUES: usize = 4;
+
+const RECORD_LENGTH: usize = 14;
+
+const RECORD_BYTES: usize = 15;
+
+pub const RECORD_SIZE: usize = 70;
+
+const STORED: usize = RECORD_SIZE - RECORD_BYTES;
 
 // The image at the front, where all of it has room.
 pub fn put(command: DirectCommands, out: &mut [u8])
     ensures { λ r. ⌜ now (out .exit) ≡ putAt (now (out .entry)) 0 (recordImage command) ⌝ }
 {
-    if out.len() < SIZE {
+    if out.len() < RECORD_SIZE {
         return;
     }
     let payload = command.payload;
     let stored = command.bytes;
     let values = crate::values::payload_laid(payload);
-    out[0] = command.dst_addr;
-    out[1] = command.src_addr;
-    out[2] = families::payload::command_id(payload);
-    codec::writer::put_bytes(out, 3, &values);
-    crate::stored::put_at(out, 14, command.len, &stored);
+    out[RECORD_DESTINATION] = command.dst_addr;
+    out[RECORD_SOURCE] = command.src_addr;
+    out[RECORD_ID] = families::payload::command_id(payload);
+    codec::writer::put_bytes(out, RECORD_SUB_COMMAND, &values);
+    crate::stored::put_at(out, RECORD_LENGTH, command.len, &stored);
 }
 
-fn same_bytes(a: &[u8], b: &[u8]) -> bool
-    requires { ⌜ length (now a) ≡ length (now b) ⌝ }
-    ensures { λ r. ⌜ r ≡ same (now (a .entry)) (now (b .entry)) ⌝ }
+fn same_bytes(one: &[u8], other: &[u8]) -> bool
+    requires { ⌜ length (now one) ≡ length (now other) ⌝ }
+    ensures { λ r. ⌜ r ≡ same (now (one .entry)) (now (other .entry)) ⌝ }
 {
     let mut i = 0;
-    while i < a.len() {
-        if a[i] != b[i] {
+    while i < one.len() {
+        if one[i] != other[i] {
             return false;
         }
         i += 1;
@@ -54,11 +71,11 @@ fn is_laid(payload: CommandPayload, image: &[u8]) -> bool
     ensures { λ r. ⌜ r ≡ same (familyId payload ∷ payloadLaid payload) (take 12 (drop 2 (now (image .entry)))) ⌝ }
 {
     let id = families::payload::command_id(payload);
-    if image[2] != id {
+    if image[RECORD_ID] != id {
         return false;
     }
     let values = crate::values::payload_laid(payload);
-    same_bytes(&values, &image[3..14])
+    same_bytes(&values, &image[RECORD_SUB_COMMAND..RECORD_LENGTH])
 }
 
 // 5, and the blank command.
@@ -75,20 +92,20 @@ fn not_made() -> CommandAnswer
 pub fn from(image: &[u8]) -> CommandAnswer
     ensures { λ r. ⌜ CommandIs (recordFrom (now (image .entry))) r ⌝ }
 {
-    if image.len() != SIZE {
+    if image.len() != RECORD_SIZE {
         return not_made();
     }
     let payload = crate::values::payload_at(image);
     if is_laid(payload, image) {
-        let mut stored = [0u8; 55];
-        bytes::copy(&image[15..], &mut stored);
+        let mut stored = [0u8; STORED];
+        bytes::copy(&image[RECORD_BYTES..], &mut stored);
         return CommandAnswer {
             outcome: Outcome::Accepted,
             command: DirectCommands {
-                dst_addr: image[0],
-                src_addr: image[1],
-                payload: payload,
-                len: image[14] as usize,
+                dst_addr: image[RECORD_DESTINATION],
+                src_addr: image[RECORD_SOURCE],
+                payload,
+                len: image[RECORD_LENGTH] as usize,
                 bytes: stored,
             },
         };

@@ -6,24 +6,26 @@ ghost use lib.Seq.{sets};
 ghost use Rattle.codec.specs.Writing.{putAt};
 ghost use Rattle.images.specs.Text.{stored};
 
-// A text's image: length, 51 bytes.
+// Of a text: where its bytes stand, and its image's size, in include/crsf.h's words.
+pub(crate) const TEXT_BYTES: usize = 1;
+
 pub const TEXT_SIZE: usize = 52;
 
 // At a place that has room for them.
-pub(crate) fn put_at(out: &mut [u8], at: usize, n: usize, b: &[u8])
-    requires { ⌜ at + (length (now b) + 1) ≤ length (now out) ⌝ }
-    ensures { λ r. ⌜ now (out .exit) ≡ sets (now (out .entry)) at (stored n (now (b .entry))) ⌝ }
+pub(crate) fn put_at(out: &mut [u8], at: usize, len: usize, bytes: &[u8])
+    requires { ⌜ at + (length (now bytes) + 1) ≤ length (now out) ⌝ }
+    ensures { λ r. ⌜ now (out .exit) ≡ sets (now (out .entry)) at (stored len (now (bytes .entry))) ⌝ }
 {
-    out[at] = (n % 256) as u8;
-    codec::writer::put_bytes(out, at + 1, b);
+    out[at] = (len % 256) as u8;
+    codec::writer::put_bytes(out, at + 1, bytes);
 }
 
 // The image at the front, where all of it has room.
-pub fn put(n: usize, b: &[u8], out: &mut [u8])
-    ensures { λ r. ⌜ now (out .exit) ≡ putAt (now (out .entry)) 0 (stored n (now (b .entry))) ⌝ }
+pub fn put(len: usize, bytes: &[u8], out: &mut [u8])
+    ensures { λ r. ⌜ now (out .exit) ≡ putAt (now (out .entry)) 0 (stored len (now (bytes .entry))) ⌝ }
 {
-    if out.len() <= b.len() {
+    if out.len() <= bytes.len() {
         return;
     }
-    put_at(out, 0, n, b);
+    put_at(out, 0, len, bytes);
 }

@@ -9,6 +9,9 @@ use listing::Listed;
 use listing::Listing;
 use listing::line::Line;
 
+// More than the two length bytes of a case can say.
+const WHOLE: usize = 65536;
+
 enum Case {
     Bytes(usize),
     Cut,
@@ -18,37 +21,37 @@ enum Case {
 // The state after a chunk, and how many bytes of text there are.
 struct Progress {
     state: Listing,
-    n: usize,
+    len: usize,
 }
 
-fn wide(x: u8) -> usize
+fn wide(byte: u8) -> usize
     ensures { λ r. ⌜ r ≤ 255 ⌝ }
 {
-    x as usize
+    byte as usize
 }
 
-// A line's text behind the n bytes that are there; a line without room is left out.
-fn put(line: Line, text: &mut [u8], n: usize) -> usize
-    requires { ⌜ n ≤ length (now text) ⌝ }
+// A line's text behind the bytes that are there; a line without room is left out.
+fn put(line: Line, text: &mut [u8], len: usize) -> usize
+    requires { ⌜ len ≤ length (now text) ⌝ }
     ensures { λ r. ⌜ r ≤ length (now (text .entry)) ⌝ }
 {
-    match listing::line::render(line, &mut text[n..]) {
-        Written::Count(k) => n + k,
-        Written::Refused(_) => n,
+    match listing::line::render(line, &mut text[len..]) {
+        Written::Count(more) => len + more,
+        Written::Refused(_) => len,
     }
 }
 
-// The lines of a chunk behind the n bytes of text that are there. A stored listing is shorter than the text; what had no room would be
+// The lines of a chunk behind the bytes of text that are there. A stored listing is shorter than the text; what had no room would be
 // missing from it, and be told by the comparison.
-fn list_chunk(state: Listing, chunk: &[u8], text: &mut [u8], n: usize) -> Progress
-    requires { ⌜ n ≤ length (now text) ⌝ }
-    ensures { λ r. ⌜ r .n ≤ length (now (text .entry)) ⌝ }
+fn list_chunk(state: Listing, chunk: &[u8], text: &mut [u8], len: usize) -> Progress
+    requires { ⌜ len ≤ length (now text) ⌝ }
+    ensures { λ r. ⌜ r .len ≤ length (now (text .entry)) ⌝ }
 {
-    let part = state.fill(chunk, 0, &mut text[n..]);
+    let part = state.fill(chunk, 0, &mut text[len..]);
     let after = part.state;
     Progress {
         state: after,
-        n: n + part.n,
+        len: len + part.len,
     }
 }
 
@@ -67,41 +70,41 @@ fn end_of(len: usize, from: usize, size: usize) -> usize
 fn feed(input: &[u8], size: usize, text: &mut [u8]) -> usize
     ensures { λ r. ⌜ r ≤ length (now (text .entry)) ⌝ }
 {
-    let mut s = Listing::new();
-    let mut n: usize = 0;
+    let mut state = Listing::new();
+    let mut len: usize = 0;
     let mut from: usize = 0;
     for turn in 0..u64::MAX {
         if input.len() <= from {
             break;
         }
         let end = end_of(input.len(), from, size);
-        let p = list_chunk(s, &input[from..end], text, n);
-        s = p.state;
-        n = p.n;
+        let progress = list_chunk(state, &input[from..end], text, len);
+        state = progress.state;
+        len = progress.len;
         from = end;
     }
-    let listed = s.finish();
+    let listed = state.finish();
     let Listed::Line(line) = listed else {
-        return n;
+        return len;
     };
-    put(line, text, n)
+    put(line, text, len)
 }
 
-// Whether chunks of so many bytes give the first m bytes of `whole`.
-fn agrees(input: &[u8], size: usize, whole: &[u8], m: usize, text: &mut [u8]) -> bool
-    requires { ⌜ m ≤ length (now whole) ⌝ }
+// Whether chunks of so many bytes give the first `end` bytes of `whole`.
+fn agrees(input: &[u8], size: usize, whole: &[u8], end: usize, text: &mut [u8]) -> bool
+    requires { ⌜ end ≤ length (now whole) ⌝ }
 {
-    let n = feed(input, size, text);
-    check::same(&whole[..m], &text[..n])
+    let len = feed(input, size, text);
+    check::same(&whole[..end], &text[..len])
 }
 
 fn list_case(input: &[u8], whole: &mut [u8], text: &mut [u8]) {
-    let m = feed(input, 65536, whole);
-    io::write_all(STDOUT_FILENO, &whole[..m]);
-    let one = agrees(input, 1, whole, m, text);
-    let two = agrees(input, 2, whole, m, text);
-    let three = agrees(input, 3, whole, m, text);
-    let seven = agrees(input, 7, whole, m, text);
+    let len = feed(input, WHOLE, whole);
+    io::write_all(STDOUT_FILENO, &whole[..len]);
+    let one = agrees(input, 1, whole, len, text);
+    let two = agrees(input, 2, whole, len, text);
+    let three = agrees(input, 3, whole, len, text);
+    let seven = agrees(input, 7, whole, len, text);
     if one && two && three && seven {
         return;
     }
@@ -129,9 +132,9 @@ fn read_case(space: &mut [u8]) -> Case {
 // One case; false where there is none.
 fn next_case(space: &mut [u8], whole: &mut [u8], text: &mut [u8]) -> bool {
     match read_case(space) {
-        Case::Bytes(n) => {
-            if n <= space.len() {
-                list_case(&space[..n], whole, text);
+        Case::Bytes(len) => {
+            if len <= space.len() {
+                list_case(&space[..len], whole, text);
             }
             true
         }

@@ -53,7 +53,8 @@ numbered-from zero k s h = absurd (omega arith)
 numbered-from (suc f) k [] h = (refl, refl)
 numbered-from (suc f) k (n ∷ s) h =
     let d : length (drop n s) < f = rw length-drop (omega arith) in
-    either (ltb (length s) n) k _ _ (refl, refl) (one-more k (readCommand (take n s)) (linesFrom f (suc k) (drop n s)) (numbered-from f (suc k) (drop n s) d))
+    either (ltb (length s) n) k _ _ (refl, refl) (one-more k (readCommand (take n s)) (linesFrom f (suc k) (drop n s))
+    (numbered-from f (suc k) (drop n s) d))
 
 pub listing-numbered : (s : List ℕ) → Numbered 0 (listing s)
 listing-numbered s = numbered-from (suc (length s)) 0 s (omega arith)
@@ -74,8 +75,10 @@ goes-counts : (s : Listing) (i : List ℕ) (at : ℕ) → Counts (s .count) (goO
 goes-counts s i at = by (ltb (length i - at) (s .wanted - s .held)) refl
   where
     by : (t : Bool) → ltb (length i - at) (s .wanted - s .held) ≡ t → Counts (s .count) (goOn s i at)
-    by true e = subst (λ (x : Stepped). Counts (s .count) x) (sym (goes-none s i at (ltb-true (length i - at) (s .wanted - s .held) e))) (counts (sym (add-zero (s .count))))
-    by false e = subst (λ (x : Stepped). Counts (s .count) x) (sym (goes-line s i at (ltb-false (length i - at) (s .wanted - s .held) e))) (counts refl)
+    by true e = subst (λ (x : Stepped). Counts (s .count) x)
+        (sym (goes-none s i at (ltb-true (length i - at) (s .wanted - s .held) e))) (counts (sym (add-zero (s .count))))
+    by false e = subst (λ (x : Stepped). Counts (s .count) x)
+        (sym (goes-line s i at (ltb-false (length i - at) (s .wanted - s .held) e))) (counts refl)
 
 step-is : (s : Listing) (i : List ℕ) (at : ℕ) → Counts (s .count) (stepOf s i at)
 step-is s i at =
@@ -91,12 +94,15 @@ pub step-counts : (s : Listing) (i : List ℕ) (at : ℕ) → stepOf s i at .sta
 step-counts s i at = count-in (s .count) (stepOf s i at) (step-is s i at)
 
 -- of the contract: whatever it allows has earned its count
-pub next-earned : (κs : Lfts 1) (a : Dens κs next-kinds.ps) (x : resT next-kinds.r κs .Denot) (s : AtExit (endedOf 1 next-kinds.ps next-kinds.r) κs)
+pub next-earned : (κs : Lfts 1) (a : Dens κs next-kinds.ps) (x : resT next-kinds.r κs .Denot)
+    (s : AtExit (endedOf 1 next-kinds.ps next-kinds.r) κs)
     → next.Post κs a x s → x .state .count ≡ a .0 .count + earned (toldListed (x .listed))
-next-earned κs a x s p = subst (λ (y : Stepped). y .state .count ≡ a .0 .count + earned (y .says)) (sym p) (step-counts (a .0) (now (a .1 .0)) (a .1 .1 .0))
+next-earned κs a x s p = subst (λ (y : Stepped). y .state .count ≡ a .0 .count + earned (y .says)) (sym p)
+    (step-counts (a .0) (now (a .1 .0)) (a .1 .1 .0))
 
 -- so a step that gives a line and leaves the count as it was is ruled out
-pub not-uncounted : (κs : Lfts 1) (a : Dens κs next-kinds.ps) (x : resT next-kinds.r κs .Denot) (s : AtExit (endedOf 1 next-kinds.ps next-kinds.r) κs) (l : Line)
+pub not-uncounted : (κs : Lfts 1) (a : Dens κs next-kinds.ps) (x : resT next-kinds.r κs .Denot)
+    (s : AtExit (endedOf 1 next-kinds.ps next-kinds.r) κs) (l : Line)
     → next.Post κs a x s → x .listed ≡ Found l → x .state .count ≡ a .0 .count → ⊥
 not-uncounted κs a x s l p e f =
     let g : x .state .count ≡ a .0 .count + 1 = next-earned κs a x s p ∙ ap (λ (y : Listed). a .0 .count + earned (toldListed y)) e in
@@ -104,7 +110,8 @@ not-uncounted κs a x s l p e f =
 
 -- ---- "The last number in a read line is the written length": the count that writing gives
 pub written-length : (k : ℕ) (p : List ℕ) (c : DirectCommands) → Bytes p → readCommand p ≡ got c
-    → (n : ℕ) × ((lineOf k (readCommand p) ≡ Read k (familyId (c .payload)) n) × (counted (stopWriting c 60) (length (payloadOf c)) ≡ got n))
+    → (n : ℕ) × ((lineOf k (readCommand p) ≡ Read k (familyId (c .payload)) n)
+    × (counted (stopWriting c 60) (length (payloadOf c)) ≡ got n))
 written-length k p c y h =
     let n = length (payloadOf c) in
     (n, (ap (λ (a : Answer DirectCommands). lineOf k a) h, ap (λ (m : ℕ). counted m n) (read-fits p c y h .1)))

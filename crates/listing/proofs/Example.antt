@@ -36,7 +36,8 @@ m3-line = ap (λ (a : Answer DirectCommands). lineOf 1 a) m3-read ∙ ap (λ (n 
 none-line : lineOf 2 (readCommand []) ≡ Refused 2 1
 none-line = ap (λ (a : Answer DirectCommands). lineOf 2 a) (read-short [] (omega arith))
 
-lines-by : (a b c : Line) → lineOf 0 (readCommand m1) ≡ a → lineOf 1 (readCommand m3) ≡ b → lineOf 2 (readCommand []) ≡ c → listing example ≡ a ∷ b ∷ c ∷ Cut 3 ∷ []
+lines-by : (a b c : Line) → lineOf 0 (readCommand m1) ≡ a → lineOf 1 (readCommand m3) ≡ b
+    → lineOf 2 (readCommand []) ≡ c → listing example ≡ a ∷ b ∷ c ∷ Cut 3 ∷ []
 lines-by a b c e f g = rw (← e, ← f, ← g)
 
 pub example-lines : listing example ≡ exampleLines

@@ -1,5 +1,5 @@
 pub mod TextLaws
-pub mod Lengths
+pub mod Lines
 pub mod StepLaws
 pub mod Chunks
 pub mod Parts

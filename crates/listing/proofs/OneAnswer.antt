@@ -50,7 +50,8 @@ step-fixed : (x y : Step) → toldStep x ≡ toldStep y → x ≡ y
 step-fixed x y e =
     ap (λ (s : Listing). record { state = s; at = x .at; listed = x .listed }) (ap (λ (z : Stepped). z .state) e)
     ∙ ap (λ (n : ℕ). record { state = y .state; at = n; listed = x .listed }) (ap (λ (z : Stepped). z .at) e)
-    ∙ ap (λ (l : Listed). record { state = y .state; at = y .at; listed = l }) (listed-fixed (x .listed) (y .listed) (ap (λ (z : Stepped). z .says) e))
+    ∙ ap (λ (l : Listed). record { state = y .state; at = y .at; listed = l })
+    (listed-fixed (x .listed) (y .listed) (ap (λ (z : Stepped). z .says) e))
 
 stopTold : Answer Bool → Stop
 stopTold (got true) = Used
@@ -68,29 +69,35 @@ stop-fixed x y e = sym (stop-told x) ∙ ap stopTold e ∙ stop-told y
 
 fills-fixed : (f : Filled) (x y : Part) (t p q : List ℕ) → Fills f x t p → Fills f y t q → (x ≡ y) × (p ≡ q)
 fills-fixed f x y t p q g h = (
-  ap (λ (s : Listing). record { state = s; at = x .at; n = x .n; stop = x .stop }) (g .state ∙ sym (h .state))
-      ∙ ap (λ (a : ℕ). record { state = y .state; at = a; n = x .n; stop = x .stop }) (g .place ∙ sym (h .place))
-      ∙ ap (λ (n : ℕ). record { state = y .state; at = y .at; n = n; stop = x .stop }) (g .count ∙ sym (h .count))
-      ∙ ap (λ (u : Stop). record { state = y .state; at = y .at; n = y .n; stop = u }) (stop-fixed (x .stop) (y .stop) (g .stop ∙ sym (h .stop))),
+  ap (λ (s : Listing). record { state = s; at = x .at; len = x .len; stop = x .stop }) (g .state ∙ sym (h .state))
+      ∙ ap (λ (a : ℕ). record { state = y .state; at = a; len = x .len; stop = x .stop }) (g .place ∙ sym (h .place))
+      ∙ ap (λ (n : ℕ). record { state = y .state; at = y .at; len = n; stop = x .stop }) (g .count ∙ sym (h .count))
+      ∙ ap (λ (u : Stop). record { state = y .state; at = y .at; len = y .len; stop = u })
+      (stop-fixed (x .stop) (y .stop) (g .stop ∙ sym (h .stop))),
   g .leaves ∙ sym (h .leaves),
 )
 
-pub new-one : (κs : Lfts 0) (a : Dens κs new-kinds.ps) (x y : resT new-kinds.r κs .Denot) (s t : AtExit (endedOf 0 new-kinds.ps new-kinds.r) κs)
+pub new-one : (κs : Lfts 0) (a : Dens κs new-kinds.ps) (x y : resT new-kinds.r κs .Denot)
+    (s t : AtExit (endedOf 0 new-kinds.ps new-kinds.r) κs)
     → new.Post κs a x s → new.Post κs a y t → x ≡ y
 new-one κs a x y s t p q = p ∙ sym q
 
-pub next-one : (κs : Lfts 1) (a : Dens κs next-kinds.ps) (x y : resT next-kinds.r κs .Denot) (s t : AtExit (endedOf 1 next-kinds.ps next-kinds.r) κs)
+pub next-one : (κs : Lfts 1) (a : Dens κs next-kinds.ps) (x y : resT next-kinds.r κs .Denot)
+    (s t : AtExit (endedOf 1 next-kinds.ps next-kinds.r) κs)
     → next.Post κs a x s → next.Post κs a y t → x ≡ y
 next-one κs a x y s t p q = step-fixed x y (p ∙ sym q)
 
-pub fill-one : (κs : Lfts 2) (a : Dens κs fill-kinds.ps) (x y : resT fill-kinds.r κs .Denot) (s t : AtExit (endedOf 2 fill-kinds.ps fill-kinds.r) κs)
+pub fill-one : (κs : Lfts 2) (a : Dens κs fill-kinds.ps) (x y : resT fill-kinds.r κs .Denot)
+    (s t : AtExit (endedOf 2 fill-kinds.ps fill-kinds.r) κs)
     → fill.Post κs a x s → fill.Post κs a y t → (x ≡ y) × (now (s .1 .1 .1 .0) ≡ now (t .1 .1 .1 .0))
 fill-one κs a x y s t p q = fills-fixed _ x y _ _ _ (p .0) (q .0)
 
-pub finish-one : (κs : Lfts 0) (a : Dens κs finish-kinds.ps) (x y : resT finish-kinds.r κs .Denot) (s t : AtExit (endedOf 0 finish-kinds.ps finish-kinds.r) κs)
+pub finish-one : (κs : Lfts 0) (a : Dens κs finish-kinds.ps) (x y : resT finish-kinds.r κs .Denot)
+    (s t : AtExit (endedOf 0 finish-kinds.ps finish-kinds.r) κs)
     → finish.Post κs a x s → finish.Post κs a y t → x ≡ y
 finish-one κs a x y s t p q = listed-fixed x y (p ∙ sym q)
 
-pub render-one : (κs : Lfts 1) (a : Dens κs render-kinds.ps) (x y : resT render-kinds.r κs .Denot) (s t : AtExit (endedOf 1 render-kinds.ps render-kinds.r) κs)
+pub render-one : (κs : Lfts 1) (a : Dens κs render-kinds.ps) (x y : resT render-kinds.r κs .Denot)
+    (s t : AtExit (endedOf 1 render-kinds.ps render-kinds.r) κs)
     → render.Post κs a x s → render.Post κs a y t → (x ≡ y) × (now (s .1 .0) ≡ now (t .1 .0))
 render-one κs a x y s t p q = (written-fixed x y _ (p .0) (q .0), p .1 ∙ sym (q .1))

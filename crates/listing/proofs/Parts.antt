@@ -14,15 +14,15 @@ use Rattle.codec.specs.Sheet.{Answer, got, refused}
 use Rattle.codec.specs.declared.refusal.Refusal.{Refusal}
 use Rattle.codec.specs.Refusals.{refusalNumber, valueIn}
 use Rattle.codec.specs.Writing.{stopRoom}
-use Rattle.codec.specs.Told.{Writes}
+use Rattle.codec.specs.Told.{WritesAll}
 use Rattle.codec.specs.declared.writer.Written.{Written}
 use Rattle.codec.specs.declared.writer.Written.the-variants.{Count, Refused as NotWritten}
 use Rattle.codec.proofs.Loops.{sets-append}
 use Rattle.listing.specs.Listing.{listing}
-use Rattle.listing.specs.Text.{textOf, PutsText}
-use Rattle.listing.specs.Step.{Stepped, toldListed, toldStep, inLimits, opened, goOn, stepOf, closing}
+use Rattle.listing.specs.Text.{longestText, textOf, PutsText}
+use Rattle.listing.specs.Step.{mostRecords, Stepped, toldListed, toldStep, inLimits, opened, goOn, stepOf, closing}
 use Rattle.listing.specs.Chunks.{Fed, fed, linesIn, stateIn, before, steps, chunk, inChunks, joined, afterChunks, NoneEmpty, After}
-use Rattle.listing.specs.Parts.{toldStop, Filled, nothing, behind, fillFrom, filled, Fills, Moves, parts, textOfParts, textOfLines, textOfChunk, textOfChunks, textOfClosing}
+use Rattle.listing.specs.Parts.{toldStop, Filled, nothing, behind, fillFrom, filled, Fills, FillsFrom, Moves, parts, textOfParts, textOfLines, textOfChunk, textOfChunks, textOfClosing}
 use Rattle.listing.specs.declared.line.Line.{Line}
 use Rattle.listing.specs.declared.line.Line.the-variants.{Cut, End}
 use Rattle.listing.specs.declared.Listing.{Listing}
@@ -44,7 +44,8 @@ goes-onward : (s : Listing) (i : List ℕ) (at from : ℕ) → from ≤ length i
 goes-onward s i at from h l = by (ltb (length i - from) (s .wanted - s .held)) refl
   where
     by : (t : Bool) → ltb (length i - from) (s .wanted - s .held) ≡ t → Onward i at (goOn s i from)
-    by true e = subst (λ (x : Stepped). Onward i at x) (sym (goes-none s i from (ltb-true (length i - from) (s .wanted - s .held) e))) (none refl)
+    by true e = subst (λ (x : Stepped). Onward i at x)
+        (sym (goes-none s i from (ltb-true (length i - from) (s .wanted - s .held) e))) (none refl)
     by false e =
         let f = ltb-false (length i - from) (s .wanted - s .held) e in
         subst (λ (x : Stepped). Onward i at x) (sym (goes-line s i from f)) (line _ refl l (omega arith))
@@ -66,7 +67,8 @@ step-onward s i at = by (inLimits s) (leb (length i) at) (eqb (s .wanted) 0) ref
         subst (λ (x : Stepped). Onward i at x) (sym (step-goes s i at e l n)) (goes-onward s i at at (omega arith) (omega arith))
 
 -- where a line was given
-step-moves : (s : Listing) (i : List ℕ) (at : ℕ) (l : Line) → stepOf s i at .says ≡ got (l ∷ []) → (at < stepOf s i at .at) × (stepOf s i at .at ≤ length i)
+step-moves : (s : Listing) (i : List ℕ) (at : ℕ) (l : Line) → stepOf s i at .says ≡ got (l ∷ [])
+    → (at < stepOf s i at .at) × (stepOf s i at .at ≤ length i)
 step-moves s i at l e = by (step-onward s i at)
   where
     by : Onward i at (stepOf s i at) → (at < stepOf s i at .at) × (stepOf s i at .at ≤ length i)
@@ -77,16 +79,19 @@ step-moves s i at l e = by (step-onward s i at)
 -- ---- one line of a part
 module _ (f : ℕ) (s : Listing) (i : List ℕ) (at room : ℕ) where
   fill-line : (l : Line) → stepOf s i at .says ≡ got (l ∷ []) → length (textOf l) ≤ room
-      → fillFrom (suc f) s i at room ≡ behind (textOf l) (fillFrom f (stepOf s i at .state) i (stepOf s i at .at) (room - length (textOf l)))
+      → fillFrom (suc f) s i at room
+      ≡ behind (textOf l) (fillFrom f (stepOf s i at .state) i (stepOf s i at .at) (room - length (textOf l)))
   fill-line l e h = rw (e, le-ltb room (length (textOf l)) h)
 
-  fill-full : (l : Line) → stepOf s i at .says ≡ got (l ∷ []) → room < length (textOf l) → fillFrom (suc f) s i at room ≡ nothing s at (got false)
+  fill-full : (l : Line) → stepOf s i at .says ≡ got (l ∷ []) → room < length (textOf l)
+      → fillFrom (suc f) s i at room ≡ nothing s at (got false)
   fill-full l e h = rw (e, lt-ltb room (length (textOf l)) h)
 
   fill-used : stepOf s i at .says ≡ got [] → fillFrom (suc f) s i at room ≡ nothing (stepOf s i at .state) (stepOf s i at .at) (got true)
   fill-used e = rw e
 
-  fill-refused : (n p : ℕ) → stepOf s i at .says ≡ refused n p → fillFrom (suc f) s i at room ≡ nothing (stepOf s i at .state) (stepOf s i at .at) (refused n p)
+  fill-refused : (n p : ℕ) → stepOf s i at .says ≡ refused n p
+      → fillFrom (suc f) s i at room ≡ nothing (stepOf s i at .state) (stepOf s i at .at) (refused n p)
   fill-refused n p e = rw e
 
 -- ---- what the loop over the lines keeps: n bytes w of the text are put, and what the part goes on with stands behind them; where
@@ -118,13 +123,14 @@ filling-starts s i at t = record {
 }
 
 behind-behind : (a b : List ℕ) (f : Filled) → behind a (behind b f) ≡ behind (a ++ b) f
-behind-behind a b f = ap (λ (w : List ℕ). record { text = w; state = f .state; at = f .at; used = f .used }) (sym (append-assoc a b (f .text)))
+behind-behind a b f = ap (λ (w : List ℕ). record { text = w; state = f .state; at = f .at; used = f .used })
+    (sym (append-assoc a b (f .text)))
 
 some-more : (m n : ℕ) → n < m → (f : ℕ) × (m ≡ suc f)
 some-more zero n h = absurd (omega arith)
 some-more (suc f) n h = (f, refl)
 
-module _ (s₀ s : Listing) (i t₀ t : List ℕ) (at j n : ℕ) (x : Step) (g : Filling s₀ i at t₀ s j n t) (e : toldStep x ≡ stepOf s i j) where
+module _ {s₀ s : Listing} {i t₀ t : List ℕ} {at j n : ℕ} (x : Step) (g : Filling s₀ i at t₀ s j n t) (e : toldStep x ≡ stepOf s i j) where
   says : toldListed (x .listed) ≡ stepOf s i j .says
   says = ap (λ (y : Stepped). y .says) e
 
@@ -139,9 +145,11 @@ module _ (s₀ s : Listing) (i t₀ t : List ℕ) (at j n : ℕ) (x : Step) (g :
 
   -- the step ends the part, with this behind what is put
   whole : (y : Filled) → fillFrom (suc (one .0)) s i j (length t₀ - n) ≡ y → filled s₀ i at (length t₀) ≡ behind (g .put) y
-  whole y h = g .goes ∙ ap (λ (m : ℕ). behind (g .put) (fillFrom m s i j (length t₀ - n))) (one .1) ∙ ap (λ (z : Filled). behind (g .put) z) h
+  whole y h = g .goes ∙ ap (λ (m : ℕ). behind (g .put) (fillFrom m s i j (length t₀ - n))) (one .1)
+      ∙ ap (λ (z : Filled). behind (g .put) z) h
 
-  ends : (y : Filled) (r : Part) (t' : List ℕ) → fillFrom (suc (one .0)) s i j (length t₀ - n) ≡ y → y .text ≡ [] → r .state ≡ y .state → r .at ≡ y .at → r .n ≡ n
+  ends : (y : Filled) (r : Part) (t' : List ℕ) → fillFrom (suc (one .0)) s i j (length t₀ - n) ≡ y → y .text ≡ []
+      → r .state ≡ y .state → r .at ≡ y .at → r .len ≡ n
       → toldStop (r .stop) ≡ y .used → t' ≡ t → Fills (filled s₀ i at (length t₀)) r t₀ t'
   ends y r t' h e₀ e₁ e₂ e₃ e₄ e₅ =
       let w : g .put ++ y .text ≡ g .put = ap (λ (z : List ℕ). g .put ++ z) e₀ ∙ append-nil (g .put) in
@@ -157,27 +165,30 @@ module _ (s₀ s : Listing) (i t₀ t : List ℕ) (at j n : ℕ) (x : Step) (g :
   abbrev pub Answers : Part → List ℕ → Type 0
   Answers r t' = Fills (filled s₀ i at (length t₀)) r t₀ t' × Moves at i r t₀
 
-  pub filling-used : x .listed ≡ Nothing → Answers (record { state = x .state; at = x .at; n = n; stop = Used }) t
+  pub filling-used : x .listed ≡ Nothing → Answers (record { state = x .state; at = x .at; len = n; stop = Used }) t
   filling-used h = (
     ends _ _ t (fill-used (one .0) s i j (length t₀ - n) (sym says ∙ ap toldListed h)) refl state-is at-is refl refl refl,
     (λ l e. let z : _≡_ {A = ℕ} 0 1 = cc in absurd (omega arith)),
   )
 
-  pub filling-refused : (r : Refusal) → x .listed ≡ Refused r → Answers (record { state = x .state; at = x .at; n = n; stop = RefusedPart r }) t
+  pub filling-refused : (r : Refusal) → x .listed ≡ Refused r
+      → Answers (record { state = x .state; at = x .at; len = n; stop = RefusedPart r }) t
   filling-refused r h = (
-    ends _ _ t (fill-refused (one .0) s i j (length t₀ - n) (refusalNumber r) 0 (sym says ∙ ap toldListed h)) refl state-is at-is refl refl refl,
+    ends _ _ t (fill-refused (one .0) s i j (length t₀ - n) (refusalNumber r) 0 (sym says ∙ ap toldListed h))
+        refl state-is at-is refl refl refl,
     (λ l e. let z : _≡_ {A = ℕ} 0 1 = cc in absurd (omega arith)),
   )
 
-  module _ (l : Line) (k : ℕ) (t' : List ℕ) (h : x .listed ≡ Found l) (p : PutsText l n k t t') where
+  module _ {l : Line} {k : ℕ} {t' : List ℕ} (h : x .listed ≡ Found l) (p : PutsText l n k t t') where
     line-is : stepOf s i j .says ≡ got (l ∷ [])
     line-is = sym says ∙ ap toldListed h
 
     -- a line without room: the part ends before it
-    pub filling-full : k ≡ 0 → Answers (record { state = s; at = j; n = n; stop = Full }) t'
+    pub filling-full : k ≡ 0 → Answers (record { state = s; at = j; len = n; stop = Full }) t'
     filling-full z =
         let q = puts-none l n k t t' p (omega (arith, g .same, g .room)) z in (
-          ends _ _ t' (fill-full (one .0) s i j (length t₀ - n) l line-is (omega (arith, q .0, g .same, g .room))) refl refl refl refl refl (q .1),
+          ends _ _ t' (fill-full (one .0) s i j (length t₀ - n) l line-is (omega (arith, q .0, g .same, g .room)))
+              refl refl refl refl refl (q .1),
           (λ longest e. g .moved (omega (arith, q .0, g .same, p .longest))),
         )
 
@@ -202,17 +213,16 @@ module _ (s₀ s : Listing) (i t₀ t : List ℕ) (at j n : ℕ) (x : Step) (g :
               whole _ (fill-line (one .0) s i j (length t₀ - n) l line-is (omega (arith, q .0, q .1 .0, g .same)))
               ∙ behind-behind (g .put) (textOf l) _
               ∙ ap (λ (r : ℕ). behind (g .put ++ textOf l) (fillFrom (one .0) (stepOf s i j .state) i (stepOf s i j .at) r)) u
-              ∙ ap (λ (y : Listing). behind (g .put ++ textOf l) (fillFrom (one .0) y i (stepOf s i j .at) (length t₀ - (n + k)))) (sym state-is)
+              ∙ ap (λ (y : Listing). behind (g .put ++ textOf l)
+              (fillFrom (one .0) y i (stepOf s i j .at) (length t₀ - (n + k)))) (sym state-is)
               ∙ ap (λ (a : ℕ). behind (g .put ++ textOf l) (fillFrom (one .0) (x .state) i a (length t₀ - (n + k)))) (sym at-is);
           onward = omega (arith, m .0, at-is, g .onward);
           moved = λ y. (omega (arith, m .0, at-is, g .onward), omega (arith, m .1, at-is));
         }
 
-    pub filling-less : (k ≡ 0 → ⊥) → length t₀ - (n + k) < length t₀ - n
-    filling-less z = let q = puts-some l n k t t' p (omega (arith, g .same, g .room)) z in omega (arith, q .1 .0, q .0, g .same, text-some l)
-
 -- ---- a part's text has room
-fill-room-by : (f : ℕ) (s : Listing) (i : List ℕ) (at room : ℕ) → ((s' : Listing) (at' room' : ℕ) → length (fillFrom f s' i at' room' .text) ≤ room')
+fill-room-by : (f : ℕ) (s : Listing) (i : List ℕ) (at room : ℕ)
+    → ((s' : Listing) (at' room' : ℕ) → length (fillFrom f s' i at' room' .text) ≤ room')
     → Onward i at (stepOf s i at) → length (fillFrom (suc f) s i at room .text) ≤ room
 fill-room-by f s i at room more (none e) = rw (fill-used f s i at room e) (omega arith)
 fill-room-by f s i at room more (no n p e) = rw (fill-refused f s i at room n p e) (omega arith)
@@ -223,7 +233,11 @@ fill-room-by f s i at room more (line l e a b) = fits (ltb room (length (textOf 
     fits false h =
         let r = ltb-false room (length (textOf l)) h in
         let m = more (stepOf s i at .state) (stepOf s i at .at) (room - length (textOf l)) in
-        rw (fill-line f s i at room l e r, length-append (textOf l) (fillFrom f (stepOf s i at .state) i (stepOf s i at .at) (room - length (textOf l)) .text)) (omega arith)
+        rw (
+          fill-line f s i at room l e r,
+          length-append (textOf l)
+              (fillFrom f (stepOf s i at .state) i (stepOf s i at .at) (room - length (textOf l)) .text),
+        ) (omega arith)
 
 fill-room : (f : ℕ) (s : Listing) (i : List ℕ) (at room : ℕ) → length (fillFrom f s i at room .text) ≤ room
 fill-room zero s i at room = omega arith
@@ -231,10 +245,13 @@ fill-room (suc f) s i at room = fill-room-by f s i at room (λ s' at' room'. fil
 
 -- so it is what stands in front in the text that is left
 pub part-text : (s : Listing) (i : List ℕ) (at : ℕ) (r : Part) (t t' : List ℕ) → Fills (filled s i at (length t)) r t t'
-    → (r .n ≤ length t) × (take (r .n) t' ≡ filled s i at (length t) .text)
+    → (r .len ≤ length t) × (take (r .len) t' ≡ filled s i at (length t) .text)
 part-text s i at r t t' h =
-    let m = fill-room (suc (length t)) s i at (length t) in
-    (omega (arith, h .count), ap (λ (x : List ℕ). take (r .n) x) (h .leaves) ∙ take-put t (filled s i at (length t) .text) 0 (r .n) (omega (arith, h .count)) (omega (arith, h .count)))
+    let m = fill-room (suc (length t)) s i at (length t) in (
+      omega (arith, h .count),
+      ap (λ (x : List ℕ). take (r .len) x) (h .leaves)
+          ∙ take-put t (filled s i at (length t) .text) 0 (r .len) (omega (arith, h .count)) (omega (arith, h .count)),
+    )
 
 -- ---- the parts of a chunk one after the other are its lines
 abbrev textFrom : ℕ → Listing → List ℕ → ℕ → List ℕ
@@ -260,14 +277,16 @@ module _ (g : ℕ) (s : Listing) (i : List ℕ) (at : ℕ) (l : Line) (e : stepO
   steps-line = ap (λ (a : Answer (List Line)). before a (stepOf s i at .state) (steps g (stepOf s i at .state) i (stepOf s i at .at))) e
 
   text-line : textFrom (suc g) s i at ≡ textOf l ++ textFrom g (stepOf s i at .state) i (stepOf s i at .at)
-  text-line = ap (λ (x : Fed). textOfLines (linesIn x)) steps-line ∙ ap textOfLines (lines-before l (stepOf s i at .state) (steps g (stepOf s i at .state) i (stepOf s i at .at)))
+  text-line = ap (λ (x : Fed). textOfLines (linesIn x)) steps-line
+      ∙ ap textOfLines (lines-before l (stepOf s i at .state) (steps g (stepOf s i at .state) i (stepOf s i at .at)))
 
   state-line : stateFrom (suc g) s i at ≡ stateFrom g (stepOf s i at .state) i (stepOf s i at .at)
   state-line = ap stateIn steps-line ∙ state-before l (stepOf s i at .state) (steps g (stepOf s i at .state) i (stepOf s i at .at))
 
   part-behind : (f : Filled) → PartOf g (stepOf s i at .state) i (stepOf s i at .at) f → PartOf (suc g) s i at (behind (textOf l) f)
   part-behind f (more h u b t c) =
-      more h u b (text-line ∙ ap (λ (x : List ℕ). textOf l ++ x) t ∙ sym (append-assoc (textOf l) (f .text) (textFrom h (f .state) i (f .at)))) (state-line ∙ c)
+      more h u b (text-line ∙ ap (λ (x : List ℕ). textOf l ++ x) t
+      ∙ sym (append-assoc (textOf l) (f .text) (textFrom h (f .state) i (f .at)))) (state-line ∙ c)
   part-behind f (last u t c) = last u (text-line ∙ ap (λ (x : List ℕ). textOf l ++ x) t) (state-line ∙ c)
 
 part-steps-by : (f g : ℕ) (s : Listing) (i : List ℕ) (at room : ℕ) → room < suc f → length i - at < suc g
@@ -284,12 +303,14 @@ part-steps-by f g s i at room h k after (line l e a b) = fits (ltb room (length 
     fits false c =
         let r = ltb-false room (length (textOf l)) c in
         rw (fill-line f s i at room l e r)
-        (part-behind g s i at l e _ (after (stepOf s i at .state) (stepOf s i at .at) (room - length (textOf l)) (omega (arith, text-some l)) (omega arith)))
+        (part-behind g s i at l e _ (after (stepOf s i at .state) (stepOf s i at .at) (room - length (textOf l))
+        (omega (arith, text-some l)) (omega arith)))
 
 part-steps : (f g : ℕ) (s : Listing) (i : List ℕ) (at room : ℕ) → room < f → length i - at < g → PartOf g s i at (fillFrom f s i at room)
 part-steps zero g s i at room h k = absurd (omega arith)
 part-steps (suc f) zero s i at room h k = absurd (omega arith)
-part-steps (suc f) (suc g) s i at room h k = part-steps-by f g s i at room h k (λ s' at' room'. part-steps f g s' i at' room') (step-onward s i at)
+part-steps (suc f) (suc g) s i at room h k = part-steps-by f g s i at room h k
+    (λ s' at' room'. part-steps f g s' i at' room') (step-onward s i at)
 
 -- what the loop over a chunk's parts keeps: so many have been, and steps from the last one's place give the rest of the lines
 pub record SoFar (room : ℕ) (s₀ : Listing) (i : List ℕ) (k : ℕ) (s : Listing) (at : ℕ) : Type 0 where
@@ -314,14 +335,14 @@ so-far-starts room s i = record {
   ends = refl;
 }
 
-module _ (s₀ s : Listing) (i t t' : List ℕ) (at k : ℕ) (r : Part) (g : SoFar (length t) s₀ i k s at) (h : Fills (filled s i at (length t)) r t t') where
+module _ {s₀ s : Listing} {i t t' : List ℕ} {at k : ℕ} {r : Part} (g : SoFar (length t) s₀ i k s at) (h : FillsFrom s i at r t t') where
   part-is : filled s i at (length t) ≡ parts (length t) s₀ i (suc k)
   part-is =
       ap (λ (x : Listing). filled x i at (length t)) (g .state)
       ∙ ap (λ (a : ℕ). filled (parts (length t) s₀ i k .state) i a (length t)) (g .place)
 
   -- what is to be written is the next part
-  pub next-part : (r .n ≤ length t) × (take (r .n) t' ≡ parts (length t) s₀ i (suc k) .text)
+  pub next-part : (r .len ≤ length t) × (take (r .len) t' ≡ parts (length t) s₀ i (suc k) .text)
   next-part =
       let p = part-text s i at r t t' h in
       (p .0, p .1 ∙ ap (λ (f : Filled). f .text) part-is)
@@ -329,7 +350,8 @@ module _ (s₀ s : Listing) (i t t' : List ℕ) (at k : ℕ) (r : Part) (g : SoF
   part-of : PartOf (g .most) s i at (filled s i at (length t))
   part-of = part-steps (suc (length t)) (g .most) s i at (length t) (omega arith) (g .left)
 
-  pub so-far-turn : toldStop (r .stop) ≡ got false → Moves at i r t → 64 ≤ length t → SoFar (length t) s₀ i (suc k) (r .state) (r .at)
+  pub so-far-turn : toldStop (r .stop) ≡ got false → Moves at i r t → longestText ≤ length t
+      → SoFar (length t) s₀ i (suc k) (r .state) (r .at)
   so-far-turn u m l = by part-of
     where
       by : PartOf (g .most) s i at (filled s i at (length t)) → SoFar (length t) s₀ i (suc k) (r .state) (r .at)
@@ -344,8 +366,10 @@ module _ (s₀ s : Listing) (i t t' : List ℕ) (at k : ℕ) (r : Part) (g : SoF
         text =
             g .text
             ∙ ap (λ (x : List ℕ). textOfParts (length t) s₀ i k ++ x) a
-            ∙ sym (append-assoc (textOfParts (length t) s₀ i k) (filled s i at (length t) .text) (textFrom n (filled s i at (length t) .state) i (filled s i at (length t) .at)))
-            ∙ ap (λ (f : Filled). (textOfParts (length t) s₀ i k ++ f .text) ++ textFrom n (filled s i at (length t) .state) i (filled s i at (length t) .at)) part-is
+            ∙ sym (append-assoc (textOfParts (length t) s₀ i k) (filled s i at (length t) .text)
+            (textFrom n (filled s i at (length t) .state) i (filled s i at (length t) .at)))
+            ∙ ap (λ (f : Filled). (textOfParts (length t) s₀ i k ++ f .text) ++ textFrom n
+            (filled s i at (length t) .state) i (filled s i at (length t) .at)) part-is
             ∙ ap (λ (x : Listing). textOfParts (length t) s₀ i (suc k) ++ textFrom n x i (filled s i at (length t) .at)) (sym (h .state))
             ∙ ap (λ (x : ℕ). textOfParts (length t) s₀ i (suc k) ++ textFrom n (r .state) i x) (sym (h .place));
         ends =
@@ -354,17 +378,20 @@ module _ (s₀ s : Listing) (i t t' : List ℕ) (at k : ℕ) (r : Part) (g : SoF
             ∙ ap (λ (x : ℕ). stateFrom n (r .state) i x) (sym (h .place));
       }
 
-  pub so-far-ends : (toldStop (r .stop) ≡ got false → ⊥) → (r .state ≡ stateIn (chunk s₀ i)) × (textOfParts (length t) s₀ i (suc k) ≡ textOfChunk s₀ i)
+  pub so-far-ends : (toldStop (r .stop) ≡ got false → ⊥)
+      → (r .state ≡ stateIn (chunk s₀ i)) × (textOfParts (length t) s₀ i (suc k) ≡ textOfChunk s₀ i)
   so-far-ends u = by part-of
     where
-      by : PartOf (g .most) s i at (filled s i at (length t)) → (r .state ≡ stateIn (chunk s₀ i)) × (textOfParts (length t) s₀ i (suc k) ≡ textOfChunk s₀ i)
+      by : PartOf (g .most) s i at (filled s i at (length t))
+          → (r .state ≡ stateIn (chunk s₀ i)) × (textOfParts (length t) s₀ i (suc k) ≡ textOfChunk s₀ i)
       by (more n v b a c) = absurd (u (h .stop ∙ v))
       by (last v a b) = (
         h .state ∙ sym (g .ends ∙ b),
-        ap (λ (f : Filled). textOfParts (length t) s₀ i k ++ f .text) (sym part-is) ∙ sym (g .text ∙ ap (λ (x : List ℕ). textOfParts (length t) s₀ i k ++ x) a),
+        ap (λ (f : Filled). textOfParts (length t) s₀ i k ++ f .text) (sym part-is)
+            ∙ sym (g .text ∙ ap (λ (x : List ℕ). textOfParts (length t) s₀ i k ++ x) a),
       )
 
--- ---- THE text of a listing: that of the chunks one after the other, then what closes it
+-- ---- THE text of a listing: that of the chunks one after the other, then what closes it. (The input is as short as in `any-chunks`.)
 text-append : (a b : List Line) → textOfLines (a ++ b) ≡ textOfLines a ++ textOfLines b
 text-append [] b = refl
 text-append (l ∷ a) b = ap (λ (x : List ℕ). textOf l ++ x) (text-append a b) ∙ sym (append-assoc (textOf l) (textOfLines a) (textOfLines b))
@@ -376,7 +403,7 @@ chunks-text s (c ∷ cs) =
     ∙ ap (λ (x : List ℕ). textOfChunk s c ++ x) (chunks-text (stateIn (chunk s c)) cs)
     ∙ sym (append-assoc (textOfChunk s c) (textOfChunks (stateIn (chunk s c)) cs) (textOfClosing (afterChunks (stateIn (chunk s c)) cs)))
 
-pub listing-text : (cs : List (List ℕ)) → Bytes (joined cs) → length (joined cs) < 9223372036854775808
+pub listing-text : (cs : List (List ℕ)) → Bytes (joined cs) → length (joined cs) < mostRecords
     → textOfChunks (opened 0 0) cs ++ textOfClosing (afterChunks (opened 0 0) cs) ≡ textOfLines (listing (joined cs))
 listing-text cs o l = sym (chunks-text (opened 0 0) cs) ∙ ap textOfLines (any-chunks cs o l)
 
@@ -401,10 +428,10 @@ after-more k s t c a l e = record {
 }
 
 -- ---- the closing line: it has room in a text that holds the longest line
-closing-longest : (s : Listing) (l : Line) → closing s ≡ got (l ∷ []) → length (textOf l) ≤ 64
+closing-longest : (s : Listing) (l : Line) → closing s ≡ got (l ∷ []) → length (textOf l) ≤ longestText
 closing-longest s l h = by (inLimits s) (eqb (s .wanted) 0) refl refl
   where
-    by : (a b : Bool) → inLimits s ≡ a → eqb (s .wanted) 0 ≡ b → length (textOf l) ≤ 64
+    by : (a b : Bool) → inLimits s ≡ a → eqb (s .wanted) 0 ≡ b → length (textOf l) ≤ longestText
     by false b e f = let g = closing-refused s e in let z : _≡_ {A = ℕ} 0 1 = cc in absurd (omega arith)
     by true true e f =
         let g = closing-end s e (eqb-true (s .wanted) 0 f) in
@@ -415,18 +442,23 @@ closing-longest s l h = by (inLimits s) (eqb (s .wanted) 0) refl refl
         let i : Cut (s .count) ≡ l = cc in
         rw (← i) (longest (Cut (s .count)) (omega (arith, limit-count s e)))
 
-module _ (s : Listing) (l : Line) (x : Written) (t t' : List ℕ) (h : closing s ≡ got (l ∷ [])) (w : Writes (stopRoom (length t) (length (textOf l))) (textOf l) x t t') where
-  pub closing-not-refused : (r : Refusal) → 64 ≤ length t → x ≡ NotWritten r → ⊥
+module _ (s : Listing) (l : Line) (x : Written) (t t' : List ℕ) (h : closing s ≡ got (l ∷ [])) (w : WritesAll (textOf l) x t t') where
+  pub closing-not-refused : (r : Refusal) → longestText ≤ length t → x ≡ NotWritten r → ⊥
   closing-not-refused r m e =
-      let f : stopRoom (length t) (length (textOf l)) ≡ 0 = rw (le-ltb (length t) (length (textOf l)) (omega (arith, closing-longest s l h))) in
+      let f : stopRoom (length t) (length (textOf l)) ≡ 0 =
+      rw (le-ltb (length t) (length (textOf l)) (omega (arith, closing-longest s l h))) in
       out-some r (length (textOf l)) (rw (f, e) at (w .0))
 
-  pub closing-text : (n : ℕ) → 64 ≤ length t → x ≡ Count n → (n ≤ length t') × (take n t' ≡ textOfClosing s)
+  pub closing-text : (n : ℕ) → longestText ≤ length t → x ≡ Count n → (n ≤ length t') × (take n t' ≡ textOfClosing s)
   closing-text n m e =
-      let f : stopRoom (length t) (length (textOf l)) ≡ 0 = rw (le-ltb (length t) (length (textOf l)) (omega (arith, closing-longest s l h))) in
+      let f : stopRoom (length t) (length (textOf l)) ≡ 0 =
+      rw (le-ltb (length t) (length (textOf l)) (omega (arith, closing-longest s l h))) in
       let g = rw (f, e) at (w .0) in
       let k : n ≡ length (textOf l) = cc in
       let i : t' ≡ sets t 0 (textOf l) = rw f at (w .1) in
       let c : textOfClosing s ≡ textOf l = ap (λ (a : Answer (List Line)). textOfLines (valueIn [] a)) h ∙ append-nil (textOf l) in
-      let j : length t' ≡ length t = ap length i ∙ length-sets t 0 (textOf l) in
-      (omega (arith, closing-longest s l h), ap (λ (y : List ℕ). take n y) i ∙ take-put t (textOf l) 0 n (omega arith) (omega (arith, closing-longest s l h)) ∙ sym c)
+      let j : length t' ≡ length t = ap length i ∙ length-sets t 0 (textOf l) in (
+        omega (arith, closing-longest s l h),
+        ap (λ (y : List ℕ). take n y) i ∙ take-put t (textOf l) 0 n (omega arith)
+            (omega (arith, closing-longest s l h)) ∙ sym c,
+      )

@@ -4,17 +4,14 @@ use Prim.Native.Nat.{ℕ}
 use mathlib.Core.List.{List, [], _∷_}
 use mathlib.Core.Bool.{true, false}
 use mathlib.Core.Path.{_≡_, refl}
-use lib.ListN.{length, replicate}
+use lib.ListN.{replicate}
 use Rattle.codec.specs.Sheet.{got, refused}
-use Rattle.codec.specs.Writing.{stopRoom}
-use Rattle.codec.specs.Told.{Writes}
+use Rattle.codec.specs.Told.{WritesAll}
 use Rattle.codec.specs.declared.refusal.Refusal.the-variants.{BufferOverflow}
-use Rattle.codec.specs.declared.writer.Written.{Written}
 use Rattle.codec.specs.declared.writer.Written.the-variants.{Refused as NotWritten}
 use Rattle.listing.specs.Text.{textOf}
 use Rattle.listing.specs.Parts.{filled, nothing, behind}
 use Rattle.listing.specs.Step.{opened, stepOf, closing}
-use Rattle.listing.specs.declared.line.Line.{Line}
 use Rattle.listing.specs.declared.line.Line.the-variants.{Refused, Cut, End}
 use Rattle.listing.specs.declared.Listing.{Listing}
 
@@ -68,10 +65,6 @@ pub finish-beyond : closing (inside 256 0) ≡ refused 5 0
 finish-beyond = refl
 
 -- ---- line::render (and must-fail/lower_case)
--- its contract: this answer, with these bytes left of those
-abbrev Renders : Line → Written → List ℕ → List ℕ → Type 0
-Renders l r s s' = Writes (stopRoom (length s) (length (textOf l))) (textOf l) r s s'
-
 -- no line is half written: "end 0" and its end are 6 bytes
-pub render-no-room : Renders (End 0) (NotWritten BufferOverflow) (replicate 5 7) (replicate 5 7)
+pub render-no-room : WritesAll (textOf (End 0)) (NotWritten BufferOverflow) (replicate 5 7) (replicate 5 7)
 render-no-room = (refl, refl)

@@ -11,16 +11,20 @@ use lib.Seq.{sets, sets-eq, set-split, drop-at, length-take-le}
 use lib.Dec.{ltb}
 use Rattle.codec.specs.Pick.{pick}
 use Rattle.codec.specs.Writing.{putAt, stopRoom, counted}
-use Rattle.codec.specs.Told.{Writes, toldWritten}
+use Rattle.codec.specs.Told.{WritesAll, toldWritten}
 use Rattle.codec.specs.Sheet.{got}
 use Rattle.codec.specs.declared.writer.Written.{Written}
 use Rattle.codec.specs.declared.writer.Written.the-variants.{Count, Refused as RefusedWrite}
 use Rattle.codec.specs.declared.refusal.Refusal.the-variants.{BufferOverflow}
 use Rattle.codec.proofs.InTurn.{writes-stop, writes-all, item-goes}
 use Rattle.codec.proofs.Writes.{put-fits, put-not, out-told}
-use Rattle.listing.specs.Text.{hexOf, digits, decimal, readWord, refusedWord, space, newline, textOf, PutsText}
+use Rattle.listing.specs.Text.{hexOf, digits, decimal, readWord, refusedWord, space, newline, textOf, longestText, mostDigits, PutsBefore, PutsText}
 use Rattle.listing.specs.declared.line.Line.{Line}
 use Rattle.listing.specs.declared.line.Line.the-variants.{Read, Refused, Cut, End}
+
+-- a word stands in front of what stood there, whatever that was
+pub in-front : (w : List ℕ) {a b rest : List ℕ} → a ≡ w ++ b → b ≡ rest → a ≡ w ++ rest
+in-front w e f = e ∙ ap (λ (x : List ℕ). w ++ x) f
 
 front : (s w : List ℕ) (a at : ℕ) → a + length w ≡ at → at ≤ length s → drop a (sets s a w) ≡ w ++ drop at s
 front s w a at k l =
@@ -31,7 +35,7 @@ front s w a at k l =
     ∙ drop-at (take a s) (w ++ drop (a + length w) s) a t
     ∙ ap (λ (i : ℕ). w ++ drop i s) k
 
-pub word-front : (s s' w : List ℕ) (a at : ℕ) → a + length w ≡ at → at ≤ length s → s' ≡ putAt s a w → drop a s' ≡ w ++ drop at s
+pub word-front : (s s' w : List ℕ) (a at : ℕ) → a + length w ≡ at → at ≤ length s → s' ≡ putAt s a w → PutsBefore w at a s s'
 word-front s s' w a at k l e =
     ap (λ (x : List ℕ). drop a x) (e ∙ put-fits s a w (omega arith)) ∙ front s w a at k l
 
@@ -58,17 +62,31 @@ one-digit g r t = by-test (ltb r 10) refl
         rw (e, q) (append-assoc (digits g (r / 10)) ((48 + r % 10) ∷ []) t)
 
 -- what the loop over the digits keeps: the rest's digits and the text from i on are n's digits and the text from `at` on
-abbrev pub Digits : ℕ → ℕ → List ℕ → ℕ → List ℕ → ℕ → Type 0
-Digits at n s₀ i s r =
-    (((i ≤ at) × (at ≤ i + 19)) × (length s ≡ length s₀))
-    × ((r < 10 ^ (i + 20 - at)) × ((f : ℕ) × ((r < f) × (digits f r ++ drop i s ≡ decimal n ++ drop at s₀))))
+pub record Digits (at n : ℕ) (s₀ : List ℕ) (i : ℕ) (s : List ℕ) (rest : ℕ) : Type 0 where
+  pub before : i ≤ at
+  pub near : at < i + mostDigits
+  pub same : length s ≡ length s₀
+  pub small : rest < 10 ^ (i + mostDigits - at)
+  pub most : ℕ
+  pub enough : rest < most
+  pub text : digits most rest ++ drop i s ≡ decimal n ++ drop at s₀
 
-pub digits-start : (at n : ℕ) (s₀ : List ℕ) → n < 18446744073709551616 → Digits at n s₀ at s₀ n
+-- 2^64: a number of 64 bits is below
+abbrev bits64 : ℕ
+bits64 = 18446744073709551616
+
+pub digits-start : (at n : ℕ) (s₀ : List ℕ) → n < bits64 → Digits at n s₀ at s₀ n
 digits-start at n s₀ b =
-    let e : at + 20 - at ≡ 20 = omega arith in
-    let p : 10 ^ 20 ≡ 100000000000000000000 = refl in
-    let q : n < 10 ^ (at + 20 - at) = rw (e, p) (omega arith) in
-    (((omega arith, omega arith), refl), (q, (suc n, (omega arith, refl))))
+    let e : at + mostDigits - at ≡ mostDigits = omega arith in
+    let p : 10 ^ mostDigits ≡ 100000000000000000000 = refl in record {
+      before = omega arith;
+      near = omega arith;
+      same = refl;
+      small = rw (e, p) (omega arith);
+      most = suc n;
+      enough = omega arith;
+      text = refl;
+    }
 
 room : (j r : ℕ) → 10 ≤ r → r < 10 ^ j → (k : ℕ) × ((j ≡ suc (suc k)) × (r / 10 < 10 ^ suc k))
 room zero r p h = let z : 10 ^ 0 ≡ 1 = refl in absurd (omega arith)
@@ -89,34 +107,41 @@ turn (suc g) r i s w q l h e =
     byte-front s (i - 1) (48 + r % 10) (omega arith) ∙ ap (λ (j : ℕ). (48 + r % 10) ∷ drop j s) k in
     (g, (refl, ap (λ (x : List ℕ). leading g (r / 10) ++ x) d ∙ sym (one-digit g r (drop i s)) ∙ e))
 
-module _ (at n i r : ℕ) (s₀ s : List ℕ) (l : 20 ≤ at) (h : at ≤ length s₀) (d : Digits at n s₀ i s r) where
-  put : (g : ℕ) × ((d .1 .1 .0 ≡ suc g) × (leading g (r / 10) ++ drop (i - 1) (set s (i - 1) (48 + r % 10)) ≡ decimal n ++ drop at s₀))
-  put = turn (d .1 .1 .0) r i s (decimal n ++ drop at s₀) (d .1 .1 .1 .0) (omega (arith, d .0 .0 .1)) (omega (arith, d .0 .0 .0, d .0 .1)) (d .1 .1 .1 .1)
+module _ {at n i r : ℕ} {s₀ s : List ℕ} (l : mostDigits ≤ at) (h : at ≤ length s₀) (d : Digits at n s₀ i s r)
+    (b : ℕ) (e : b ≡ 48 + r % 10) where
+  put : (g : ℕ) × ((d .most ≡ suc g) × (leading g (r / 10) ++ drop (i - 1) (set s (i - 1) b) ≡ decimal n ++ drop at s₀))
+  put = rw e
+      (turn (d .most) r i s (decimal n ++ drop at s₀) (d .enough) (omega (arith, d .near))
+      (omega (arith, d .before, d .same)) (d .text))
 
-  pub digits-end : r / 10 ≡ 0 → drop (i - 1) (set s (i - 1) (48 + r % 10)) ≡ decimal n ++ drop at s₀
-  digits-end e =
-      let a : leading (put .0) (r / 10) ≡ [] = rw e in
-      ap (λ (x : List ℕ). x ++ drop (i - 1) (set s (i - 1) (48 + r % 10))) (sym a) ∙ put .1 .1
+  pub digits-end : r / 10 ≡ 0 → PutsBefore (decimal n) at (i - 1) s₀ (set s (i - 1) b)
+  digits-end z =
+      let a : leading (put .0) (r / 10) ≡ [] = rw z in
+      ap (λ (x : List ℕ). x ++ drop (i - 1) (set s (i - 1) b)) (sym a) ∙ put .1 .1
 
-  pub digits-turn : (r / 10 ≡ 0 → ⊥) → Digits at n s₀ (i - 1) (set s (i - 1) (48 + r % 10)) (r / 10)
-  digits-turn e =
-      let v : 0 < r / 10 = pos (r / 10) e in
-      let m = room (i + 20 - at) r (omega arith) (d .1 .0) in
-      let o : i + 20 - at ≡ suc (suc (m .0)) = m .1 .0 in
-      let p : i - 1 + 20 - at ≡ suc (m .0) = omega (arith, d .0 .0 .0) in
-      let q : r / 10 < 10 ^ (i - 1 + 20 - at) = rw p (m .1 .1) in
+  pub digits-turn : (r / 10 ≡ 0 → ⊥) → Digits at n s₀ (i - 1) (set s (i - 1) b) (r / 10)
+  digits-turn z =
+      let v : 0 < r / 10 = pos (r / 10) z in
+      let m = room (i + mostDigits - at) r (omega arith) (d .small) in
+      let o : i + mostDigits - at ≡ suc (suc (m .0)) = m .1 .0 in
+      let p : i - 1 + mostDigits - at ≡ suc (m .0) = omega (arith, d .before) in
       let a : leading (put .0) (r / 10) ≡ digits (put .0) (r / 10) = rw (lt-ltb 0 (r / 10) v) in
-      let z : put .0 + 1 ≡ d .1 .1 .0 = omega (arith, put .1 .0) in (
-        ((omega (arith, d .0 .0 .0), omega (arith, d .0 .0 .0)), length-set s (i - 1) (48 + r % 10) ∙ d .0 .1),
-        (q, (put .0, (omega (arith, d .1 .1 .1 .0), ap (λ (x : List ℕ). x ++ drop (i - 1) (set s (i - 1) (48 + r % 10))) (sym a) ∙ put .1 .1))),
-      )
+      let f : put .0 + 1 ≡ d .most = omega (arith, put .1 .0) in record {
+        before = omega (arith, d .before);
+        near = omega (arith, d .before);
+        same = length-set s (i - 1) b ∙ d .same;
+        small = rw p (m .1 .1);
+        most = put .0;
+        enough = omega (arith, d .enough);
+        text = ap (λ (x : List ℕ). x ++ drop (i - 1) (set s (i - 1) b)) (sym a) ∙ put .1 .1;
+      }
 
 -- ---- a text at its end, put at a place of a lent slice
-text-length : (t w : List ℕ) (start : ℕ) → length t ≡ 64 → drop start t ≡ w → length w ≡ 64 - start
+text-length : (t w : List ℕ) (start : ℕ) → length t ≡ longestText → drop start t ≡ w → length w ≡ longestText - start
 text-length t w start l e = ap length (sym e) ∙ length-drop start t ∙ ap (λ (n : ℕ). n - start) l
 
-module _ (l : Line) (t s : List ℕ) (at start : ℕ) (h : length t ≡ 64) (e : drop start t ≡ textOf l) (f : at ≤ length s) where
-  pub puts-not : length s - at < 64 - start → PutsText l at 0 s s
+module _ (l : Line) (t s : List ℕ) (at start : ℕ) (h : length t ≡ longestText) (e : drop start t ≡ textOf l) (f : at ≤ length s) where
+  pub puts-not : length s - at < longestText - start → PutsText l at 0 s s
   puts-not g =
       let n = text-length t (textOf l) start h e in record {
         count = rw (lt-ltb (length s - at) (length (textOf l)) (omega arith));
@@ -124,7 +149,8 @@ module _ (l : Line) (t s : List ℕ) (at start : ℕ) (h : length t ≡ 64) (e :
         longest = omega arith;
       }
 
-  pub puts-all : (s' part : List ℕ) → 64 - start ≤ length s - at → part ≡ drop start t → s' ≡ putAt s at part → PutsText l at (64 - start) s s'
+  pub puts-all : (s' part : List ℕ) → longestText - start ≤ length s - at → part ≡ drop start t → s' ≡ putAt s at part
+      → PutsText l at (longestText - start) s s'
   puts-all s' part g i j =
       let n = text-length t (textOf l) start h e in record {
         count = rw (le-ltb (length s - at) (length (textOf l)) (omega arith)) (sym n);
@@ -144,7 +170,8 @@ module _ (l : Line) (at k : ℕ) (s s' : List ℕ) (p : PutsText l at k s s') (h
   pub puts-none : k ≡ 0 → (length s < at + length (textOf l)) × (s' ≡ s)
   puts-none e = by (ltb (length s - at) (length (textOf l))) refl (sym e ∙ p .count)
     where
-      by : (b : Bool) → ltb (length s - at) (length (textOf l)) ≡ b → 0 ≡ pick b 0 (length (textOf l)) → (length s < at + length (textOf l)) × (s' ≡ s)
+      by : (b : Bool) → ltb (length s - at) (length (textOf l)) ≡ b → 0 ≡ pick b 0 (length (textOf l))
+          → (length s < at + length (textOf l)) × (s' ≡ s)
       by true g f =
           let r : length s < at + length (textOf l) = omega (arith, ltb-true (length s - at) (length (textOf l)) g) in
           (r, p .leaves ∙ put-not s at (textOf l) r)
@@ -162,51 +189,56 @@ module _ (l : Line) (at k : ℕ) (s s' : List ℕ) (p : PutsText l at k s s') (h
 
 -- a text at the front of a lent slice
 pub text-stop : (l : Line) (k : ℕ) (s s' : List ℕ) → PutsText l 0 k s s' → k ≡ 0
-    → Writes (stopRoom (length s) (length (textOf l))) (textOf l) (RefusedWrite BufferOverflow) s s'
+    → WritesAll (textOf l) (RefusedWrite BufferOverflow) s s'
 text-stop l k s s' p e =
     let n = puts-none l 0 k s s' p (omega arith) e in
-    rw (n .1) (writes-stop (stopRoom (length s) (length (textOf l))) (textOf l) s BufferOverflow (rw (lt-ltb (length s) (length (textOf l)) (omega arith))))
+    rw (n .1) (writes-stop (stopRoom (length s) (length (textOf l))) (textOf l) s BufferOverflow
+    (rw (lt-ltb (length s) (length (textOf l)) (omega arith))))
 
 pub text-put : (l : Line) (k : ℕ) (s s' : List ℕ) → PutsText l 0 k s s' → (k ≡ 0 → ⊥)
-    → Writes (stopRoom (length s) (length (textOf l))) (textOf l) (Count k) s s'
+    → WritesAll (textOf l) (Count k) s s'
 text-put l k s s' p e =
     let n = puts-some l 0 k s s' p (omega arith) e in
-    writes-all (stopRoom (length s) (length (textOf l))) k (textOf l) s s' (rw (le-ltb (length s) (length (textOf l)) (omega arith))) (n .0) (n .1 .1)
+    writes-all (stopRoom (length s) (length (textOf l))) k (textOf l) s s'
+    (rw (le-ltb (length s) (length (textOf l)) (omega arith))) (n .0) (n .1 .1)
 
 -- what is counted had room
-pub written-fits : (r : Written) (k : ℕ) (w s s' : List ℕ) → Writes (stopRoom (length s) (length w)) w r s s' → r ≡ Count k → k ≤ length s
+pub written-fits : (r : Written) (k : ℕ) (w s s' : List ℕ) → WritesAll w r s s' → r ≡ Count k → k ≤ length s
 written-fits r k w s s' h e =
-    let g : got k ≡ counted (stopRoom (length s) (length w)) (length w) = sym (ap toldWritten e) ∙ out-told r (stopRoom (length s) (length w)) (length w) (h .0) in
+    let g : got k ≡ counted (stopRoom (length s) (length w)) (length w) = sym (ap toldWritten e)
+    ∙ out-told r (stopRoom (length s) (length w)) (length w) (h .0) in
     let i = item-goes true (length s) (length w) 0 k g in
     omega (arith, i .1 .0, i .1 .1)
 
--- ---- no text is longer than LONGEST: its numbers have at most 20 digits
+-- ---- no text is longer than `longestText`: its numbers have at most 20 digits
 digits-length : (f k n : ℕ) → n < 10 ^ suc k → length (digits f n) ≤ suc k
 digits-length zero k n h = omega arith
 digits-length (suc f) k n h = by (ltb n 10) refl (λ j. digits-length f j (n / 10))
   where
-    by : (b : Bool) → ltb n 10 ≡ b → ((j : ℕ) → n / 10 < 10 ^ suc j → length (digits f (n / 10)) ≤ suc j) → length (digits (suc f) n) ≤ suc k
+    by : (b : Bool) → ltb n 10 ≡ b → ((j : ℕ) → n / 10 < 10 ^ suc j → length (digits f (n / 10)) ≤ suc j)
+        → length (digits (suc f) n) ≤ suc k
     by true e more = rw e (omega arith)
     by false e more =
         let m = room (suc k) n (ltb-false n 10 e) h in
         rw (e, length-append (digits f (n / 10)) ((48 + n % 10) ∷ [])) (omega (arith, m .1 .0, more (m .0) (m .1 .1)))
 
-decimal-length : (n : ℕ) → n < 18446744073709551616 → length (decimal n) ≤ 20
+decimal-length : (n : ℕ) → n < bits64 → length (decimal n) ≤ 20
 decimal-length n h = let p : 10 ^ 20 ≡ 100000000000000000000 = refl in digits-length (suc n) 19 n (rw p (omega arith))
 
 -- a line's numbers are what its types hold
 abbrev pub Typed : Line → Type 0
-Typed (Read k f n) = (k < 18446744073709551616) × (n < 18446744073709551616)
-Typed (Refused k n) = (k < 18446744073709551616) × (n < 18446744073709551616)
-Typed (Cut k) = k < 18446744073709551616
-Typed (End k) = k < 18446744073709551616
+Typed (Read k f n) = (k < bits64) × (n < bits64)
+Typed (Refused k n) = (k < bits64) × (n < bits64)
+Typed (Cut k) = k < bits64
+Typed (End k) = k < bits64
 
-ends-length : (k : ℕ) → k < 18446744073709551616 → length (decimal k ++ newline) ≤ 21
+ends-length : (k : ℕ) → k < bits64 → length (decimal k ++ newline) ≤ 21
 ends-length k h = rw (length-append (decimal k) newline) (omega (arith, decimal-length k h))
 
-pub longest : (l : Line) → Typed l → length (textOf l) ≤ 64
+pub longest : (l : Line) → Typed l → length (textOf l) ≤ longestText
 longest (Read k f n) h =
-    rw (length-append (decimal k) (readWord ++ (hexOf f ++ (space ++ (decimal n ++ newline))))) (omega (arith, decimal-length k (h .0), ends-length n (h .1)))
+    rw (length-append (decimal k) (readWord ++ (hexOf f ++ (space ++ (decimal n ++ newline)))))
+    (omega (arith, decimal-length k (h .0), ends-length n (h .1)))
 longest (Refused k n) h =
     rw (length-append (decimal k) (refusedWord ++ (decimal n ++ newline))) (omega (arith, decimal-length k (h .0), ends-length n (h .1)))
 longest (Cut k) h = omega (arith, ends-length k h)

@@ -9,7 +9,7 @@ use lib.Dec.{ltb}
 use Rattle.codec.specs.Pick.{pick}
 use Rattle.codec.specs.Sheet.{Answer, got, refused}
 use Rattle.codec.specs.Refusals.{refusalNumber, valueIn}
-use Rattle.listing.specs.Text.{textOf}
+use Rattle.listing.specs.Text.{longestText, textOf}
 use Rattle.listing.specs.Step.{stepOf, closing}
 use Rattle.listing.specs.Chunks.{linesIn, stateIn, chunk, joined}
 use Rattle.listing.specs.declared.line.Line.{Line}
@@ -60,13 +60,17 @@ filled s i at room = fillFrom (suc room) s i at room
 pub record Fills (f : Filled) (r : Part) (t t' : List ℕ) : Type 0 where
   pub state : r .state ≡ f .state
   pub place : r .at ≡ f .at
-  pub count : r .n ≡ length (f .text)
+  pub count : r .len ≡ length (f .text)
   pub stop : toldStop (r .stop) ≡ f .used
   pub leaves : t' ≡ sets t 0 (f .text)
 
+-- with THE part from a place of the chunk i on: all of t is its room
+abbrev pub FillsFrom : Listing → List ℕ → ℕ → Part → List ℕ → List ℕ → Type 0
+FillsFrom s i at r t t' = Fills (filled s i at (length t)) r t t'
+
 -- a part that stops for want of room has moved on, in a text that holds the longest line
 abbrev pub Moves : ℕ → List ℕ → Part → List ℕ → Type 0
-Moves at i r t = 64 ≤ length t → toldStop (r .stop) ≡ got false → (at < r .at) × (r .at ≤ length i)
+Moves at i r t = longestText ≤ length t → toldStop (r .stop) ≡ got false → (at < r .at) × (r .at ≤ length i)
 
 -- the parts of a chunk one after the other, the k-th behind those before it
 abbrev pub parts : ℕ → Listing → List ℕ → ℕ → Filled

@@ -32,29 +32,42 @@ pub record Stepped : Type 0 where
 abbrev pub toldStep : Step → Stepped
 toldStep x = record { state = x .state; at = x .at; says = toldListed (x .listed) }
 
+-- a count that can be raised is below this
+abbrev pub mostRecords : ℕ
+mostRecords = 18446744073709551615
+
+-- what a length byte can say
+abbrev pub longestRecord : ℕ
+longestRecord = 255
+
 -- a state's own limits: a count that can be raised; between records both numbers 0, else fewer bytes held than wanted
 abbrev pub inLimits : Listing → Bool
 inLimits s =
-    pick (leb 18446744073709551615 (s .count)) false
-    (pick (ltb 255 (s .wanted)) false
+    pick (leb mostRecords (s .count)) false
+    (pick (ltb longestRecord (s .wanted)) false
     (pick (eqb (s .wanted) 0) (eqb (s .held) 0) (ltb (s .held) (s .wanted))))
+
+-- "The largest length is 60.": of a longer payload no byte matters
+abbrev pub mostKept : ℕ
+mostKept = 60
 
 -- record k, of n payload bytes, none of which has come; n is 0 between records
 abbrev pub opened : ℕ → ℕ → Listing
-opened k n = record { count = k; wanted = n; held = 0; bytes = replicate 60 0 }
+opened k n = record { count = k; wanted = n; held = 0; bytes = replicate mostKept 0 }
 
--- with more of its bytes; of a payload over 60 bytes none matters
+-- with more of its bytes
 abbrev pub keptWith : Listing → List ℕ → Listing
 keptWith s t = record {
   count = s .count;
   wanted = s .wanted;
   held = s .held + length t;
-  bytes = pick (ltb 60 (s .wanted)) (s .bytes) (sets (s .bytes) (s .held) t);
+  bytes = pick (ltb mostKept (s .wanted)) (s .bytes) (sets (s .bytes) (s .held) t);
 }
 
 -- its line, with the last of its bytes
 abbrev pub lineWith : Listing → List ℕ → Line
-lineWith s t = lineOf (s .count) (pick (ltb 60 (s .wanted)) (refused 1 0) (readCommand (take (s .held) (s .bytes) ++ t)))
+lineWith s t =
+    lineOf (s .count) (pick (ltb mostKept (s .wanted)) (refused 1 0) (readCommand (take (s .held) (s .bytes) ++ t)))
 
 -- a record that goes on at a place of a chunk: to its end, or to the chunk's
 abbrev pub goOn : Listing → List ℕ → ℕ → Stepped
@@ -77,4 +90,7 @@ stepOf s i at =
 
 -- the input has ended
 abbrev pub closing : Listing → Answer (List Line)
-closing s = pick (inLimits s) (pick (eqb (s .wanted) 0) (got (End (s .count) ∷ [])) (got (Cut (s .count) ∷ []))) (refused 5 0)
+closing s =
+    pick (inLimits s)
+    (pick (eqb (s .wanted) 0) (got (End (s .count) ∷ [])) (got (Cut (s .count) ∷ [])))
+    (refused 5 0)

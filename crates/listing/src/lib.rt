@@ -4,21 +4,20 @@ ghost use Prim.Native.Nat.{_+_, _≤_, _<_};
 ghost use lib.ListN.{length};
 ghost use Rattle.commands.specs.Reading.{readCommand};
 ghost use Rattle.listing.specs.Listing.{lineOf};
-ghost use Rattle.listing.specs.Parts.{filled, Fills, Moves};
-ghost use Rattle.listing.specs.Step.{toldListed, toldStep, inLimits, opened, keptWith, lineWith, goOn, stepOf, closing};
+ghost use Rattle.listing.specs.Parts.{FillsFrom, Moves};
+ghost use Rattle.listing.specs.Step.{mostRecords, longestRecord, toldListed, toldStep, inLimits, opened, keptWith, lineWith, goOn, stepOf, closing};
 use codec::refusal::Outcome;
 use codec::refusal::Refusal;
 use commands::DirectCommands;
 use line::Line;
 
 pub mod line;
-mod written;
 
 // A payload longer than this is refused whatever it holds.
 const MOST_KEPT: usize = 60;
 
 // A length byte holds no more.
-const LONGEST_PAYLOAD: usize = 255;
+const LONGEST_RECORD: usize = 255;
 
 // Between two chunks: the records so far; of the one that is cut, its length, how many payload bytes have come, and they, where
 // they matter. Between records both numbers are 0.
@@ -26,7 +25,7 @@ pub struct Listing {
     pub count: u64,
     pub wanted: usize,
     pub held: usize,
-    pub bytes: [u8; 60],
+    pub bytes: [u8; MOST_KEPT],
 }
 
 // What a step or the end gives: a line; none, as the chunk is used up; or a number, for a state beyond its limits.
@@ -54,7 +53,7 @@ pub enum Stop {
 pub struct Part {
     pub state: Listing,
     pub at: usize,
-    pub n: usize,
+    pub len: usize,
     pub stop: Stop,
 }
 
@@ -63,17 +62,17 @@ fn fresh(count: u64, wanted: usize) -> Listing
     ensures { λ r. ⌜ r ≡ opened count wanted ⌝ }
 {
     Listing {
-        count: count,
-        wanted: wanted,
+        count,
+        wanted,
         held: 0,
-        bytes: [0u8; 60],
+        bytes: [0u8; MOST_KEPT],
     }
 }
 
-fn wide(x: u8) -> usize
-    ensures { λ r. ⌜ r ≡ x ⌝ }
+fn wide(byte: u8) -> usize
+    ensures { λ r. ⌜ r ≡ byte ⌝ }
 {
-    x as usize
+    byte as usize
 }
 
 // The line of a whole payload.
@@ -84,14 +83,12 @@ fn line_of(count: u64, payload: &[u8]) -> Line
     let outcome = read.outcome;
     let command = read.command;
     let family = command.payload;
-    let bytes = command.bytes;
     match outcome {
         Outcome::Accepted => {
             let id = families::payload::command_id(family);
-            let body = written::body(family, &bytes, command.len);
-            Line::Read(count, id, body + 4)
+            Line::Read(count, id, command.written_len())
         }
-        Outcome::Refused(r) => Line::Refused(count, codec::refusal::number(r)),
+        Outcome::Refused(why) => Line::Refused(count, codec::refusal::number(why)),
     }
 }
 
@@ -108,7 +105,7 @@ impl Listing {
         if u64::MAX <= self.count {
             return false;
         }
-        if LONGEST_PAYLOAD < self.wanted {
+        if LONGEST_RECORD < self.wanted {
             return false;
         }
         if self.wanted == 0 {
@@ -128,7 +125,7 @@ impl Listing {
             return Listing {
                 count: self.count,
                 wanted: self.wanted,
-                held: held,
+                held,
                 bytes: kept,
             };
         }
@@ -136,7 +133,7 @@ impl Listing {
         Listing {
             count: self.count,
             wanted: self.wanted,
-            held: held,
+            held,
             bytes: kept,
         }
     }
@@ -160,7 +157,7 @@ impl Listing {
 
     // A record that goes on in this chunk.
     fn go_on(self, input: &[u8], at: usize) -> Step
-        requires { ⌜ (at ≤ length (now input)) × ((self .count < 18446744073709551615) × (self .held < self .wanted)) ⌝ }
+        requires { ⌜ (at ≤ length (now input)) × ((self .count < mostRecords) × (self .held < self .wanted)) ⌝ }
         ensures { λ r. ⌜ toldStep r ≡ goOn self (now (input .entry)) at ⌝ }
     {
         let left = self.wanted - self.held;
@@ -187,7 +184,7 @@ impl Listing {
             if input.len() <= at {
                 return Step {
                     state: self,
-                    at: at,
+                    at,
                     listed: Listed::Nothing,
                 };
             }
@@ -198,55 +195,54 @@ impl Listing {
         }
         Step {
             state: self,
-            at: at,
+            at,
             listed: Listed::Refused(Refusal::RecordNotMade),
         }
     }
 
     // The text of the lines from a place of the chunk on, as many as have room.
     pub fn fill(self, input: &[u8], at: usize, text: &mut [u8]) -> Part
-        ensures { λ r. ⌜ Fills (filled self (now (input .entry)) at (length (now (text .entry)))) r (now (text .entry)) (now (text .exit)) ⌝ }
+        ensures { λ r. ⌜ FillsFrom self (now (input .entry)) at r (now (text .entry)) (now (text .exit)) ⌝ }
         ensures { λ r. ⌜ Moves at (now (input .entry)) r (now (text .entry)) ⌝ }
     {
-        let mut s = self;
-        let mut i = at;
-        let mut n: usize = 0;
+        let mut state = self;
+        let mut place = at;
+        let mut len: usize = 0;
         loop {
-            let step = s.next(input, i);
+            let step = state.next(input, place);
             let listed = step.listed;
             let after = step.state;
-            match listed {
-                Listed::Line(line) => {
-                    let k = line::put_text(line, text, n);
-                    if k == 0 {
-                        return Part {
-                            state: s,
-                            at: i,
-                            n: n,
-                            stop: Stop::Full,
-                        };
-                    }
-                    n += k;
-                    s = after;
-                    i = step.at;
-                }
+            let line = match listed {
+                Listed::Line(line) => line,
                 Listed::Nothing => {
                     return Part {
                         state: after,
                         at: step.at,
-                        n: n,
+                        len,
                         stop: Stop::Used,
                     };
                 }
-                Listed::Refused(r) => {
+                Listed::Refused(why) => {
                     return Part {
                         state: after,
                         at: step.at,
-                        n: n,
-                        stop: Stop::Refused(r),
+                        len,
+                        stop: Stop::Refused(why),
                     };
                 }
+            };
+            let put = line::put_text(line, text, len);
+            if put == 0 {
+                return Part {
+                    state,
+                    at: place,
+                    len,
+                    stop: Stop::Full,
+                };
             }
+            len += put;
+            state = after;
+            place = step.at;
         }
     }
 
@@ -266,7 +262,7 @@ impl Listing {
 
 // A record whose length byte stands before `at`: where the chunk has all of it, nothing is copied.
 fn begin(count: u64, wanted: usize, input: &[u8], at: usize) -> Step
-    requires { ⌜ (at ≤ length (now input)) × ((count < 18446744073709551615) × (wanted ≤ 255)) ⌝ }
+    requires { ⌜ (at ≤ length (now input)) × ((count < mostRecords) × (wanted ≤ longestRecord)) ⌝ }
     ensures { λ r. ⌜ toldStep r ≡ goOn (opened count wanted) (now (input .entry)) at ⌝ }
 {
     if input.len() - at < wanted {

@@ -2,10 +2,9 @@
 ghost use mathlib.Core.Path.{_≡_};
 ghost use mathlib.Core.List.{_++_};
 ghost use Prim.Native.Nat.{_+_, _-_, _≤_, _<_};
-ghost use lib.ListN.{length, drop};
-ghost use Rattle.codec.specs.Writing.{stopRoom};
-ghost use Rattle.codec.specs.Told.{Writes};
-ghost use Rattle.listing.specs.Text.{hexDigit, hexOf, decimal, newline, textOf, PutsText};
+ghost use lib.ListN.{length};
+ghost use Rattle.codec.specs.Told.{WritesAll};
+ghost use Rattle.listing.specs.Text.{longestText, mostDigits, hexDigit, hexOf, decimal, newline, textOf, PutsBefore, EndsWith, PutsText};
 use codec::refusal::Refusal;
 use codec::writer::Written;
 
@@ -20,61 +19,77 @@ pub enum Line {
 // No text of a line is longer.
 const LONGEST: usize = 64;
 
-fn digit(n: u64) -> u8
-    requires { ⌜ n < 10 ⌝ }
-    ensures { λ r. ⌜ r ≡ 48 + n ⌝ }
+fn digit(value: u64) -> u8
+    requires { ⌜ value < 10 ⌝ }
+    ensures { λ r. ⌜ r ≡ 48 + value ⌝ }
 {
-    48 + n as u8
+    b'0' + value as u8
 }
 
-fn hex_digit(n: u8) -> u8
-    requires { ⌜ n < 16 ⌝ }
-    ensures { λ r. ⌜ r ≡ hexDigit n ⌝ }
+fn hex_digit(value: u8) -> u8
+    requires { ⌜ value < 16 ⌝ }
+    ensures { λ r. ⌜ r ≡ hexDigit value ⌝ }
 {
-    if n < 10 { 48 + n } else { 55 + n }
+    if value < 10 {
+        b'0' + value
+    } else {
+        b'A' + (value - 10)
+    }
 }
 
 // A text is made from its end to its start. What stands from `at` on gets these bytes in front of it; the answer is where they start.
 fn put_word(text: &mut [u8], at: usize, word: &[u8]) -> usize
     requires { ⌜ (length (now word) ≤ at) × (at ≤ length (now text)) ⌝ }
-    ensures { λ r. ⌜ (r ≡ at - length (now (word .entry))) × (drop r (now (text .exit)) ≡ now (word .entry) ++ drop at (now (text .entry))) ⌝ }
+    ensures { λ r. ⌜ r ≡ at - length (now (word .entry)) ⌝ }
+    ensures { λ r. ⌜ PutsBefore (now (word .entry)) at r (now (text .entry)) (now (text .exit)) ⌝ }
 {
     let start = at - word.len();
     codec::writer::put_bytes(text, start, word);
     start
 }
 
-fn put_decimal(text: &mut [u8], at: usize, n: u64) -> usize
-    requires { ⌜ (20 ≤ at) × (at ≤ length (now text)) ⌝ }
-    ensures { λ r. ⌜ ((at ≤ r + 20) × (r < at)) × (drop r (now (text .exit)) ≡ decimal n ++ drop at (now (text .entry))) ⌝ }
+fn put_decimal(text: &mut [u8], at: usize, number: u64) -> usize
+    requires { ⌜ (mostDigits ≤ at) × (at ≤ length (now text)) ⌝ }
+    ensures { λ r. ⌜ (at ≤ r + mostDigits) × (r < at) ⌝ }
+    ensures { λ r. ⌜ PutsBefore (decimal number) at r (now (text .entry)) (now (text .exit)) ⌝ }
 {
-    let mut i = at;
-    let mut rest = n;
+    let mut start = at;
+    let mut rest = number;
     loop {
-        i -= 1;
-        text[i] = digit(rest % 10);
+        start -= 1;
+        text[start] = digit(rest % 10);
         rest = rest / 10;
         if rest == 0 {
-            return i;
+            return start;
         }
     }
 }
 
-fn put_hex(text: &mut [u8], at: usize, n: u8) -> usize
+fn put_hex(text: &mut [u8], at: usize, byte: u8) -> usize
     requires { ⌜ (2 ≤ at) × (at ≤ length (now text)) ⌝ }
-    ensures { λ r. ⌜ (r ≡ at - 2) × (drop r (now (text .exit)) ≡ hexOf n ++ drop at (now (text .entry))) ⌝ }
+    ensures { λ r. ⌜ r ≡ at - 2 ⌝ }
+    ensures { λ r. ⌜ PutsBefore (hexOf byte) at r (now (text .entry)) (now (text .exit)) ⌝ }
 {
-    let two = [hex_digit(n / 16), hex_digit(n % 16)];
-    put_word(text, at, &two)
+    let digits = [hex_digit(byte / 16), hex_digit(byte % 16)];
+    put_word(text, at, &digits)
 }
 
-// All of a line's text, up to the end of `text`.
-fn put_read(text: &mut [u8], count: u64, family: u8, written: usize) -> usize
-    requires { ⌜ length (now text) ≡ 64 ⌝ }
-    ensures { λ r. ⌜ (r ≤ 64) × (drop r (now (text .exit)) ≡ textOf (Line.Read count family written)) ⌝ }
+// A line's last number and its end, up to the end of `text`.
+fn put_end(text: &mut [u8], number: u64) -> usize
+    requires { ⌜ length (now text) ≡ longestText ⌝ }
+    ensures { λ r. ⌜ longestText ≤ r + (mostDigits + 1) ⌝ }
+    ensures { λ r. ⌜ EndsWith (decimal number ++ newline) r (now (text .exit)) ⌝ }
 {
     let end = put_word(text, LONGEST, b"\n");
-    let number = put_decimal(text, end, written as u64);
+    put_decimal(text, end, number)
+}
+
+// All of a line's text.
+fn put_read(text: &mut [u8], count: u64, family: u8, written: usize) -> usize
+    requires { ⌜ length (now text) ≡ longestText ⌝ }
+    ensures { λ r. ⌜ EndsWith (textOf (Line.Read count family written)) r (now (text .exit)) ⌝ }
+{
+    let number = put_end(text, written as u64);
     let space = put_word(text, number, b" ");
     let id = put_hex(text, space, family);
     let word = put_word(text, id, b" read ");
@@ -82,27 +97,25 @@ fn put_read(text: &mut [u8], count: u64, family: u8, written: usize) -> usize
 }
 
 fn put_refused(text: &mut [u8], count: u64, why: u8) -> usize
-    requires { ⌜ length (now text) ≡ 64 ⌝ }
-    ensures { λ r. ⌜ (r ≤ 64) × (drop r (now (text .exit)) ≡ textOf (Line.Refused count why)) ⌝ }
+    requires { ⌜ length (now text) ≡ longestText ⌝ }
+    ensures { λ r. ⌜ EndsWith (textOf (Line.Refused count why)) r (now (text .exit)) ⌝ }
 {
-    let end = put_word(text, LONGEST, b"\n");
-    let number = put_decimal(text, end, why as u64);
+    let number = put_end(text, why as u64);
     let word = put_word(text, number, b" refused ");
     put_decimal(text, word, count)
 }
 
 fn put_last(text: &mut [u8], word: &[u8], count: u64) -> usize
-    requires { ⌜ (length (now text) ≡ 64) × (length (now word) ≤ 8) ⌝ }
-    ensures { λ r. ⌜ (r ≤ 64) × (drop r (now (text .exit)) ≡ now (word .entry) ++ (decimal count ++ newline)) ⌝ }
+    requires { ⌜ (length (now text) ≡ longestText) × (length (now word) ≤ 8) ⌝ }
+    ensures { λ r. ⌜ EndsWith (now (word .entry) ++ (decimal count ++ newline)) r (now (text .exit)) ⌝ }
 {
-    let end = put_word(text, LONGEST, b"\n");
-    let number = put_decimal(text, end, count);
+    let number = put_end(text, count);
     put_word(text, number, word)
 }
 
 fn put_line(text: &mut [u8], line: Line) -> usize
-    requires { ⌜ length (now text) ≡ 64 ⌝ }
-    ensures { λ r. ⌜ (r ≤ 64) × (drop r (now (text .exit)) ≡ textOf line) ⌝ }
+    requires { ⌜ length (now text) ≡ longestText ⌝ }
+    ensures { λ r. ⌜ EndsWith (textOf line) r (now (text .exit)) ⌝ }
 {
     match line {
         Line::Read(count, family, written) => put_read(text, count, family, written),
@@ -119,21 +132,21 @@ pub(crate) fn put_text(line: Line, out: &mut [u8], at: usize) -> usize
 {
     let mut text = [0u8; LONGEST];
     let start = put_line(&mut text, line);
-    let n = LONGEST - start;
-    if out.len() - at < n {
+    let len = LONGEST - start;
+    if out.len() - at < len {
         return 0;
     }
     codec::writer::put_bytes(out, at, &text[start..]);
-    n
+    len
 }
 
 // The text at the front of `out`, where all of it has room; else 3.
 pub fn render(line: Line, out: &mut [u8]) -> Written
-    ensures { λ r. ⌜ Writes (stopRoom (length (now (out .entry))) (length (textOf line))) (textOf line) r (now (out .entry)) (now (out .exit)) ⌝ }
+    ensures { λ r. ⌜ WritesAll (textOf line) r (now (out .entry)) (now (out .exit)) ⌝ }
 {
-    let n = put_text(line, out, 0);
-    if n == 0 {
+    let len = put_text(line, out, 0);
+    if len == 0 {
         return Written::Refused(Refusal::BufferOverflow);
     }
-    Written::Count(n)
+    Written::Count(len)
 }

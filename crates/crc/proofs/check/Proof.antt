@@ -17,6 +17,16 @@ Inv-loop bytes start r₀ i₀ r i = (i ≤ length bytes) × (worked commandPoly
 abbrev μ-loop : tie.MeasureT-loop
 μ-loop bytes start r₀ i₀ r i = length bytes - i
 
+loop-again : tie.Need-loop-again Inv-loop μ-loop
+loop-again c = (search needs, turn _ _ _ _ _ _ (c .before .before .before .loop .inv .1) (c .eight-steps .ensures) (search needs))
+
+returns : tie.Need-returns Inv-loop μ-loop
+returns c =
+    let bs = c .before .before .before .args .bytes .now in
+    done _ _ _ (c .before .loop .i) _ (c .before .loop .inv .1) (search needs)
+    ∙ worked-is-check command _ _ (search needs) (bytes-of bs (c .before .before .shared-slice-known .given))
+
+-- ---- what the toolchain asks for, and finds
 loop-holds : tie.Need-loop-holds Inv-loop μ-loop
 loop-holds c = search needs
 
@@ -31,15 +41,6 @@ add-i c = search needs
 
 loop-less : tie.Need-loop-less Inv-loop μ-loop
 loop-less c = search needs
-
-loop-again : tie.Need-loop-again Inv-loop μ-loop
-loop-again c = (search needs, turn _ _ _ _ _ _ (c .before .before .before .loop .inv .1) (c .eight-steps .ensures) (search needs))
-
-returns : tie.Need-returns Inv-loop μ-loop
-returns c =
-    let bs = c .before .before .before .args .bytes .now in
-    done _ _ _ (c .before .loop .i) _ (c .before .loop .inv .1) (search needs)
-    ∙ worked-is-check command _ _ (search needs) (bytes-of bs (c .before .before .shared-slice-known .given))
 
 pub check-spec : {M : Type 1} → statement M
 check-spec =

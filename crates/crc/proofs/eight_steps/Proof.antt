@@ -19,6 +19,14 @@ loop-holds : tie.Need-loop-holds Inv-loop μ-loop
 unfolding steps
 loop-holds c = (search needs, refl)
 
+loop-again : tie.Need-loop-again Inv-loop μ-loop
+unfolding steps
+loop-again c = (search needs, rw add-one (c .shift .ensures ∙ ap (step commandPolynomial) (c .before .before .loop .inv .1)))
+
+returns : tie.Need-returns Inv-loop μ-loop
+returns c = let e : c .before .loop .i ≡ 8 = omega arith in rw e at (c .before .loop .inv .1)
+
+-- ---- what the toolchain asks for, and finds
 shift-requires : tie.Need-shift-requires Inv-loop μ-loop
 shift-requires c κs = search needs
 
@@ -27,13 +35,6 @@ add-i c = search needs
 
 loop-less : tie.Need-loop-less Inv-loop μ-loop
 loop-less c = search needs
-
-loop-again : tie.Need-loop-again Inv-loop μ-loop
-unfolding steps
-loop-again c = (search needs, rw add-one (c .shift .ensures ∙ ap (step commandPolynomial) (c .before .before .loop .inv .1)))
-
-returns : tie.Need-returns Inv-loop μ-loop
-returns c = let e : c .before .loop .i ≡ 8 = omega arith in rw e at (c .before .loop .inv .1)
 
 pub eight-steps-spec : {M : Type 1} → statement M
 eight-steps-spec =

@@ -10,25 +10,30 @@ use Rattle.crc.proofs.Laws.{bytes-of, payload-check-from}
 use Rattle.crc.proofs.payload_check.Statement.{statement}
 use Rattle.crc.proofs.payload_check.Tie as tie
 
-but-last-requires : tie.Need-but-last-requires
-but-last-requires c κs = search needs
-
 slice-aggregate-check : tie.Need-slice-aggregate-check
 slice-aggregate-check c = sym (length-take-le _ _ (omega arith))
+
+returns : tie.Need-returns
+returns c =
+    let at-eight-steps = c .before in
+    let at-but-last = at-eight-steps .before .before in
+    let at-shared-slice-known = at-but-last .before in
+    let at-start = at-shared-slice-known .before in
+    let p = at-start .args .payload .now in
+    let t = at-start .args .packet-type in
+    c .check .ensures
+    ∙ ap₂ (λ (s n : ℕ). checkFrom commandPolynomial s (take n p)) (at-eight-steps .eight-steps .ensures) (at-but-last .but-last .ensures)
+    ∙ sym (payload-check-from t p (search needs) (bytes-of p (at-shared-slice-known .shared-slice-known .given)))
+
+-- ---- what the toolchain asks for, and finds
+but-last-requires : tie.Need-but-last-requires
+but-last-requires c κs = search needs
 
 eight-steps-requires : tie.Need-eight-steps-requires
 eight-steps-requires c κs = search needs
 
 check-requires : tie.Need-check-requires
 check-requires c κs = search needs
-
-returns : tie.Need-returns
-returns c =
-    let p = c .before .before .before .before .before .args .payload .now in
-    let t = c .before .before .before .before .before .args .packet-type in
-    c .check .ensures
-    ∙ ap₂ (λ (s n : ℕ). checkFrom commandPolynomial s (take n p)) (c .before .eight-steps .ensures) (c .before .before .before .but-last .ensures)
-    ∙ sym (payload-check-from t p (search needs) (bytes-of p (c .before .before .before .before .shared-slice-known .given)))
 
 pub payload-check-spec : {M : Type 1} → statement M
 payload-check-spec =

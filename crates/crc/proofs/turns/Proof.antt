@@ -19,6 +19,17 @@ loop-holds : tie.Need-loop-holds Inv-loop μ-loop
 unfolding steps
 loop-holds c = (search needs, refl)
 
+loop-again : tie.Need-loop-again Inv-loop μ-loop
+loop-again c = (
+  search needs,
+  c .eight-steps .ensures ∙ ap (steps commandPolynomial 8) (c .before .before .loop .inv .1)
+      ∙ eight-more commandPolynomial _ _,
+)
+
+returns : tie.Need-returns Inv-loop μ-loop
+returns c = let e : c .before .loop .i ≡ c .before .before .args .n = omega arith in rw e at (c .before .loop .inv .1)
+
+-- ---- what the toolchain asks for, and finds
 eight-steps-requires : tie.Need-eight-steps-requires Inv-loop μ-loop
 eight-steps-requires c κs = search needs
 
@@ -27,13 +38,6 @@ add-i c = search needs
 
 loop-less : tie.Need-loop-less Inv-loop μ-loop
 loop-less c = search needs
-
-loop-again : tie.Need-loop-again Inv-loop μ-loop
-loop-again c =
-    (search needs, c .eight-steps .ensures ∙ ap (steps commandPolynomial 8) (c .before .before .loop .inv .1) ∙ eight-more commandPolynomial _ _)
-
-returns : tie.Need-returns Inv-loop μ-loop
-returns c = let e : c .before .loop .i ≡ c .before .before .args .n = omega arith in rw e at (c .before .loop .inv .1)
 
 pub turns-spec : {M : Type 1} → statement M
 turns-spec =

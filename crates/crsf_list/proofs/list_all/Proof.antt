@@ -13,16 +13,32 @@ use Rattle.crsf_list.proofs.list_all.Statement.{statement}
 use Rattle.crsf_list.proofs.list_all.Tie as tie
 
 abbrev Inv-loop : tie.InvT-loop
-Inv-loop fd name input₀ text₀ s₀ chunks₀ input text s chunks = After chunks s × ((length text ≡ length text₀) × (length input ≡ length input₀))
+Inv-loop fd name input₀ text₀ state₀ chunks₀ input text state chunks =
+    After chunks state × ((length text ≡ length text₀) × (length input ≡ length input₀))
 
 abbrev μ-loop : tie.MeasureT-loop
-μ-loop fd name input₀ text₀ s₀ chunks₀ input text s chunks = 18446744073709551615 - chunks
-
-new-requires : tie.Need-new-requires Inv-loop μ-loop
-new-requires c κs = search needs
+μ-loop fd name input₀ text₀ state₀ chunks₀ input text state chunks = 18446744073709551615 - chunks
 
 loop-holds : tie.Need-loop-holds Inv-loop μ-loop
 loop-holds c = (subst (λ (s : Listing). After 0 s) (sym (c .new .ensures)) after-none, (refl, refl))
+
+loop-again : tie.Need-loop-again Inv-loop μ-loop
+loop-again c =
+    let at-if3 = c .before in
+    let at-list-chunk = at-if3 .before .before .before .before in
+    let at-if2 = at-list-chunk .before .before .before in
+    let at-count = at-if2 .before in
+    let at-read = at-count .before .before .before .before .before in
+    let at-loop = at-read .before .before .before in (
+      after-more _ _ _ (take (at-count .count .result) (at-read .read .last .1 .0)) (at-loop .loop .inv .0)
+          (omega (arith, some (at-count .count .result) (at-if2 .if2 .left), at-count .count .ensures .0 .1))
+          (at-list-chunk .list-chunk .ensures (not-false _ (at-if3 .if3 .left)) .0),
+      search needs,
+    )
+
+-- ---- what the toolchain asks for, and finds
+new-requires : tie.Need-new-requires Inv-loop μ-loop
+new-requires c κs = search needs
 
 read-requires : tie.Need-read-requires Inv-loop μ-loop
 read-requires c κs = search needs
@@ -77,12 +93,6 @@ add-chunks c = search needs
 
 loop-less : tie.Need-loop-less Inv-loop μ-loop
 loop-less c = search needs
-
-loop-again : tie.Need-loop-again Inv-loop μ-loop
-loop-again c = (
-  after-more _ _ _ (take (c .before .before .before .before .before .before .before .before .before .count .result) (c .before .before .before .before .before .before .before .before .before .before .before .before .before .before .read .last .1 .0)) (c .before .before .before .before .before .before .before .before .before .before .before .before .before .before .before .before .before .loop .inv .0) (omega (arith, some (c .before .before .before .before .before .before .before .before .before .count .result) (c .before .before .before .before .before .before .before .before .if2 .left), c .before .before .before .before .before .before .before .before .before .count .ensures .0 .1)) (c .before .before .before .before .before .list-chunk .ensures (not-false _ (c .before .if3 .left)) .0),
-  search needs,
-)
 
 same-length-7 : tie.Need-same-length-7 Inv-loop μ-loop
 same-length-7 c = search needs

@@ -5,10 +5,30 @@ use mathlib.Core.Path.{sym}
 use lib.ListN.{length}
 use lib.Seq.{length-take-le}
 use borrow.Rule.Slice.PartMut.{putMid}
+use Rattle.crsf_list.specs.Handed.{beforeName}
 use borrow.Author.Needs.{needs}
 use Rattle.crsf_list.proofs.list_argument.Statement.{statement}
 use Rattle.crsf_list.proofs.list_argument.Tie as tie
 
+slice-aggregate-list-named : tie.Need-slice-aggregate-list-named
+slice-aggregate-list-named c =
+    let at-arg = c .before .before .before .before .before in
+    let at-put-bytes = at-arg .before .before .before .before in
+    let before = at-put-bytes .put-bytes .last .0 in
+    let name = putMid beforeName (length before - beforeName) before (at-arg .arg .last .1 .0) in
+    let fits : beforeName + at-arg .arg .result ≤ length name = search needs in
+    sym (length-take-le (beforeName + at-arg .arg .result) name fits)
+
+list-named-requires : tie.Need-list-named-requires
+list-named-requires c κs =
+    let at-arg = c .before .before .before .before .before in
+    let at-put-bytes = at-arg .before .before .before .before in
+    let before = at-put-bytes .put-bytes .last .0 in
+    let name = putMid beforeName (length before - beforeName) before (at-arg .arg .last .1 .0) in
+    let fits : beforeName + at-arg .arg .result ≤ length name = search needs in
+    omega (arith, length-take-le (beforeName + at-arg .arg .result) name fits)
+
+-- ---- what the toolchain asks for, and finds
 slice-aggregate-put-bytes : tie.Need-slice-aggregate-put-bytes
 slice-aggregate-put-bytes c = search needs
 
@@ -47,14 +67,6 @@ add-end c = search needs
 
 slice-reshare-prefix-list-named : tie.Need-slice-reshare-prefix-list-named
 slice-reshare-prefix-list-named c = search needs
-
-slice-aggregate-list-named : tie.Need-slice-aggregate-list-named
-slice-aggregate-list-named c = let fits : 11 + c .before .before .before .before .before .arg .result ≤ length (putMid 11 (length (c .before .before .before .before .before .before .before .before .before .put-bytes .last .0) - 11) (c .before .before .before .before .before .before .before .before .before .put-bytes .last .0) (c .before .before .before .before .before .arg .last .1 .0)) = search needs in
-    sym (length-take-le (11 + c .before .before .before .before .before .arg .result) (putMid 11 (length (c .before .before .before .before .before .before .before .before .before .put-bytes .last .0) - 11) (c .before .before .before .before .before .before .before .before .before .put-bytes .last .0) (c .before .before .before .before .before .arg .last .1 .0)) fits)
-
-list-named-requires : tie.Need-list-named-requires
-list-named-requires c κs = let fits : 11 + c .before .before .before .before .before .arg .result ≤ length (putMid 11 (length (c .before .before .before .before .before .before .before .before .before .put-bytes .last .0) - 11) (c .before .before .before .before .before .before .before .before .before .put-bytes .last .0) (c .before .before .before .before .before .arg .last .1 .0)) = search needs in
-    omega (arith, length-take-le (11 + c .before .before .before .before .before .arg .result) (putMid 11 (length (c .before .before .before .before .before .before .before .before .before .put-bytes .last .0) - 11) (c .before .before .before .before .before .before .before .before .before .put-bytes .last .0) (c .before .before .before .before .before .arg .last .1 .0)) fits)
 
 same-length-2 : tie.Need-same-length-2
 same-length-2 c = search needs

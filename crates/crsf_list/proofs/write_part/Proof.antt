@@ -7,9 +7,11 @@ use Rattle.crsf_list.proofs.write_part.Statement.{statement}
 use Rattle.crsf_list.proofs.write_part.Tie as tie
 
 slice-aggregate-write-out : tie.Need-slice-aggregate-write-out
-slice-aggregate-write-out c = let given = c .before .before .before .args in
-    sym (length-take-le (given .n) (now (given .text)) (c .before .before .before .pre .fits))
+slice-aggregate-write-out c =
+    let at-start = c .before .before .before in
+    sym (length-take-le (at-start .args .len) (now (at-start .args .text)) (at-start .pre .fits))
 
+-- ---- what the toolchain asks for, and finds
 write-out-requires : tie.Need-write-out-requires
 write-out-requires c κs = search needs
 

@@ -7,17 +7,22 @@ use borrow.Author.Needs.{needs}
 use Rattle.list_cases.proofs.agrees.Statement.{statement}
 use Rattle.list_cases.proofs.agrees.Tie as tie
 
+slice-aggregate-same : tie.Need-slice-aggregate-same
+slice-aggregate-same c =
+    let at-start = c .before .before .before .before .before .before .before .before in
+    sym (length-take-le (at-start .args .end) (now (at-start .args .whole)) (at-start .pre))
+
+slice-aggregate-same-2 : tie.Need-slice-aggregate-same-2
+slice-aggregate-same-2 c =
+    let fed = c .before .before .before .before .feed in
+    sym (length-take-le (fed .result) (fed .last .1 .1 .0) (omega (arith, fed .kept .1 .1 .0)))
+
+-- ---- what the toolchain asks for, and finds
 feed-requires : tie.Need-feed-requires
 feed-requires c κs = search needs
 
-slice-aggregate-same : tie.Need-slice-aggregate-same
-slice-aggregate-same c = sym (length-take-le (c .before .before .before .before .before .before .before .before .args .m) (now (c .before .before .before .before .before .before .before .before .args .whole)) (c .before .before .before .before .before .before .before .before .pre))
-
 slice-reshare-prefix-same : tie.Need-slice-reshare-prefix-same
 slice-reshare-prefix-same c = search needs
-
-slice-aggregate-same-2 : tie.Need-slice-aggregate-same-2
-slice-aggregate-same-2 c = sym (length-take-le (c .before .before .before .before .feed .result) (c .before .before .before .before .feed .last .1 .1 .0) (omega (arith, c .before .before .before .before .feed .kept .1 .1 .0)))
 
 same-requires : tie.Need-same-requires
 same-requires c κs = search needs

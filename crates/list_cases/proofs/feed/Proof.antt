@@ -7,11 +7,13 @@ use Rattle.list_cases.proofs.feed.Statement.{statement}
 use Rattle.list_cases.proofs.feed.Tie as tie
 
 abbrev Inv-loop : tie.InvT-loop
-Inv-loop input size text₀ s₀ n₀ from₀ turn₀ text s n from turn = (n ≤ length text₀) × (length text ≡ length text₀)
+Inv-loop input size text₀ state₀ len₀ from₀ turn₀ text state len from turn =
+    (len ≤ length text₀) × (length text ≡ length text₀)
 
 abbrev μ-loop : tie.MeasureT-loop
-μ-loop input size text₀ s₀ n₀ from₀ turn₀ text s n from turn = 18446744073709551615 - turn
+μ-loop input size text₀ state₀ len₀ from₀ turn₀ text state len from turn = 18446744073709551615 - turn
 
+-- ---- what the toolchain asks for, and finds
 new-requires : tie.Need-new-requires Inv-loop μ-loop
 new-requires c κs = search needs
 

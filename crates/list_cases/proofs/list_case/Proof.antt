@@ -6,14 +6,17 @@ use borrow.Author.Needs.{needs}
 use Rattle.list_cases.proofs.list_case.Statement.{statement}
 use Rattle.list_cases.proofs.list_case.Tie as tie
 
+slice-aggregate-write-all : tie.Need-slice-aggregate-write-all
+slice-aggregate-write-all c =
+    let fed = c .before .before .before .feed in
+    sym (length-take-le (fed .result) (fed .last .1 .1 .0) (omega (arith, fed .kept .1 .1 .0)))
+
+-- ---- what the toolchain asks for, and finds
 feed-requires : tie.Need-feed-requires
 feed-requires c κs = search needs
 
 slice-reshare-prefix-write-all : tie.Need-slice-reshare-prefix-write-all
 slice-reshare-prefix-write-all c = search needs
-
-slice-aggregate-write-all : tie.Need-slice-aggregate-write-all
-slice-aggregate-write-all c = sym (length-take-le (c .before .before .before .feed .result) (c .before .before .before .feed .last .1 .1 .0) (omega (arith, c .before .before .before .feed .kept .1 .1 .0)))
 
 write-all-requires : tie.Need-write-all-requires
 write-all-requires c κs = search needs

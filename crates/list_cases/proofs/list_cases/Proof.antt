@@ -6,11 +6,13 @@ use Rattle.list_cases.proofs.list_cases.Statement.{statement}
 use Rattle.list_cases.proofs.list_cases.Tie as tie
 
 abbrev Inv-loop : tie.InvT-loop
-Inv-loop space₀ whole₀ text₀ turns₀ space whole text turns = ((length space ≡ length space₀) × (length whole ≡ length whole₀)) × (length text ≡ length text₀)
+Inv-loop space₀ whole₀ text₀ turns₀ space whole text turns =
+    ((length space ≡ length space₀) × (length whole ≡ length whole₀)) × (length text ≡ length text₀)
 
 abbrev μ-loop : tie.MeasureT-loop
 μ-loop space₀ whole₀ text₀ turns₀ space whole text turns = turns
 
+-- ---- what the toolchain asks for, and finds
 loop-holds : tie.Need-loop-holds Inv-loop μ-loop
 loop-holds c = search needs
 

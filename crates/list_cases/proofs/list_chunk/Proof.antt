@@ -8,6 +8,27 @@ use borrow.Author.Needs.{needs}
 use Rattle.list_cases.proofs.list_chunk.Statement.{statement}
 use Rattle.list_cases.proofs.list_chunk.Tie as tie
 
+add-t8 : tie.Need-add-t8
+add-t8 c =
+    let at-fill = c .before .before .before .before in
+    let at-start = at-fill .before .before .before .before in
+    let given = at-start .args in
+    let left = take (length (now (given .text)) - given .len) (drop (given .len) (now (given .text))) in
+    let fits = part-text (given .state) (now (given .chunk)) 0 (at-fill .fill .result) left _ (at-fill .fill .ensures .0) in
+    let room : length left ≤ length (now (given .text)) - given .len = simp (length-take, length-drop) (omega arith) in
+    record { fits = omega (arith, fits .0, at-start .pre) }
+
+returns : tie.Need-returns
+returns c =
+    let at-fill = c .before .before .before .before in
+    let at-start = at-fill .before .before .before .before in
+    let given = at-start .args in
+    let left = take (length (now (given .text)) - given .len) (drop (given .len) (now (given .text))) in
+    let fits = part-text (given .state) (now (given .chunk)) 0 (at-fill .fill .result) left _ (at-fill .fill .ensures .0) in
+    let room : length left ≤ length (now (given .text)) - given .len = simp (length-take, length-drop) (omega arith) in
+    omega (arith, fits .0, at-start .pre)
+
+-- ---- what the toolchain asks for, and finds
 sub-fill : tie.Need-sub-fill
 sub-fill c = search needs
 
@@ -20,20 +41,8 @@ part-fill-end c = search needs
 fill-requires : tie.Need-fill-requires
 fill-requires c κs = search needs
 
-add-t8 : tie.Need-add-t8
-add-t8 c = let given = c .before .before .before .before .before .before .before .before .args in
-    let f = part-text (given .state) (now (given .chunk)) 0 (c .before .before .before .before .fill .result) (take (length (now (given .text)) - given .n) (drop (given .n) (now (given .text)))) _ (c .before .before .before .before .fill .ensures .0) in
-    let l : length (take (length (now (given .text)) - given .n) (drop (given .n) (now (given .text)))) ≤ length (now (given .text)) - given .n = simp (length-take, length-drop) (omega arith) in
-    record { fits = omega (arith, f .0, c .before .before .before .before .before .before .before .before .pre) }
-
 same-length : tie.Need-same-length
 same-length c = search needs
-
-returns : tie.Need-returns
-returns c = let given = c .before .before .before .before .before .before .before .before .args in
-    let f = part-text (given .state) (now (given .chunk)) 0 (c .before .before .before .before .fill .result) (take (length (now (given .text)) - given .n) (drop (given .n) (now (given .text)))) _ (c .before .before .before .before .fill .ensures .0) in
-    let l : length (take (length (now (given .text)) - given .n) (drop (given .n) (now (given .text)))) ≤ length (now (given .text)) - given .n = simp (length-take, length-drop) (omega arith) in
-    omega (arith, f .0, c .before .before .before .before .before .before .before .before .pre)
 
 pub list-chunk-spec : {M : Type 1} → statement M
 list-chunk-spec =

@@ -6,17 +6,22 @@ use borrow.Author.Needs.{needs}
 use Rattle.list_cases.proofs.next_case.Statement.{statement}
 use Rattle.list_cases.proofs.next_case.Tie as tie
 
+slice-aggregate-list-case : tie.Need-slice-aggregate-list-case
+slice-aggregate-list-case c =
+    let at-if1 = c .before in
+    let at-len = at-if1 .before .before in
+    let at-read-case = at-len .before .before .before .before in
+    sym (length-take-le (at-len .len .given .0 .0) (at-read-case .read-case .last .0) (omega (arith, at-if1 .if1 .taken)))
+
+-- ---- what the toolchain asks for, and finds
 read-case-requires : tie.Need-read-case-requires
 read-case-requires c κs = search needs
 
-enum-known-n : tie.Need-enum-known-n
-enum-known-n c = search needs
+enum-known-len : tie.Need-enum-known-len
+enum-known-len c = search needs
 
 slice-reshare-prefix-list-case : tie.Need-slice-reshare-prefix-list-case
 slice-reshare-prefix-list-case c = search needs
-
-slice-aggregate-list-case : tie.Need-slice-aggregate-list-case
-slice-aggregate-list-case c = sym (length-take-le (c .before .before .before .n .given .0 .0) (c .before .before .before .before .before .before .before .read-case .last .0) (omega (arith, c .before .if1 .taken)))
 
 list-case-requires : tie.Need-list-case-requires
 list-case-requires c κs = search needs
@@ -68,7 +73,7 @@ next-case-spec =
     tie.close
     (tie.spec
     read-case-requires
-    enum-known-n
+    enum-known-len
     slice-reshare-prefix-list-case
     slice-aggregate-list-case
     list-case-requires

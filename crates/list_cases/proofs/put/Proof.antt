@@ -9,6 +9,31 @@ use borrow.Author.Needs.{needs}
 use Rattle.list_cases.proofs.put.Statement.{statement}
 use Rattle.list_cases.proofs.put.Tie as tie
 
+add-result : tie.Need-add-result
+add-result c =
+    let at-more = c .before in
+    let at-render = at-more .before .before .before .before in
+    let at-start = at-render .before .before .before in
+    let given = at-start .args in
+    let left = take (length (now (given .text)) - given .len) (drop (given .len) (now (given .text))) in
+    let fits = written-fits (at-render .render .result) (at-more .more .given .0 .0) (textOf (given .line)) left _
+    (at-render .render .ensures) (at-more .more .given .1) in
+    let room : length left ≤ length (now (given .text)) - given .len = simp (length-take, length-drop) (omega arith) in
+    omega (arith, at-start .pre)
+
+returns : tie.Need-returns
+returns c =
+    let at-more = c .before in
+    let at-render = at-more .before .before .before .before in
+    let at-start = at-render .before .before .before in
+    let given = at-start .args in
+    let left = take (length (now (given .text)) - given .len) (drop (given .len) (now (given .text))) in
+    let fits = written-fits (at-render .render .result) (at-more .more .given .0 .0) (textOf (given .line)) left _
+    (at-render .render .ensures) (at-more .more .given .1) in
+    let room : length left ≤ length (now (given .text)) - given .len = simp (length-take, length-drop) (omega arith) in
+    omega (arith, at-start .pre)
+
+-- ---- what the toolchain asks for, and finds
 sub-render : tie.Need-sub-render
 sub-render c = search needs
 
@@ -21,24 +46,14 @@ part-render-end c = search needs
 render-requires : tie.Need-render-requires
 render-requires c κs = search needs
 
-enum-known-k : tie.Need-enum-known-k
-enum-known-k c = search needs
-
-add-result : tie.Need-add-result
-add-result c = let f = written-fits (c .before .before .before .before .before .render .result) (c .before .k .given .0 .0) (textOf (c .before .before .before .before .before .before .before .before .args .line)) (take (length (now (c .before .before .before .before .before .before .before .before .args .text)) - c .before .before .before .before .before .before .before .before .args .n) (drop (c .before .before .before .before .before .before .before .before .args .n) (now (c .before .before .before .before .before .before .before .before .args .text)))) _ (c .before .before .before .before .before .render .ensures) (c .before .k .given .1) in
-    let l : length (take (length (now (c .before .before .before .before .before .before .before .before .args .text)) - c .before .before .before .before .before .before .before .before .args .n) (drop (c .before .before .before .before .before .before .before .before .args .n) (now (c .before .before .before .before .before .before .before .before .args .text)))) ≤ length (now (c .before .before .before .before .before .before .before .before .args .text)) - c .before .before .before .before .before .before .before .before .args .n = simp (length-take, length-drop) (omega arith) in
-    omega (arith, c .before .before .before .before .before .before .before .before .pre)
+enum-known-more : tie.Need-enum-known-more
+enum-known-more c = search needs
 
 enum-told : tie.Need-enum-told
 enum-told c = search needs
 
 same-length : tie.Need-same-length
 same-length c = search needs
-
-returns : tie.Need-returns
-returns c = let f = written-fits (c .before .before .before .before .before .render .result) (c .before .k .given .0 .0) (textOf (c .before .before .before .before .before .before .before .before .args .line)) (take (length (now (c .before .before .before .before .before .before .before .before .args .text)) - c .before .before .before .before .before .before .before .before .args .n) (drop (c .before .before .before .before .before .before .before .before .args .n) (now (c .before .before .before .before .before .before .before .before .args .text)))) _ (c .before .before .before .before .before .render .ensures) (c .before .k .given .1) in
-    let l : length (take (length (now (c .before .before .before .before .before .before .before .before .args .text)) - c .before .before .before .before .before .before .before .before .args .n) (drop (c .before .before .before .before .before .before .before .before .args .n) (now (c .before .before .before .before .before .before .before .before .args .text)))) ≤ length (now (c .before .before .before .before .before .before .before .before .args .text)) - c .before .before .before .before .before .before .before .before .args .n = simp (length-take, length-drop) (omega arith) in
-    omega (arith, c .before .before .before .before .before .before .before .before .pre)
 
 same-length-2 : tie.Need-same-length-2
 same-length-2 c = search needs
@@ -54,7 +69,7 @@ put-spec =
     part-render-start
     part-render-end
     render-requires
-    enum-known-k
+    enum-known-more
     add-result
     enum-told
     same-length

@@ -7,6 +7,12 @@ use borrow.Author.Needs.{needs}
 use Rattle.list_cases.proofs.read_case.Statement.{statement}
 use Rattle.list_cases.proofs.read_case.Tie as tie
 
+slice-aggregate-read-full-2 : tie.Need-slice-aggregate-read-full-2
+slice-aggregate-read-full-2 c =
+    let at-start = c .before .before .before .before .before .before .before .before .before in
+    sym (length-take-le _ (now (at-start .args .space)) (omega arith))
+
+-- ---- what the toolchain asks for, and finds
 slice-aggregate-read-full : tie.Need-slice-aggregate-read-full
 slice-aggregate-read-full c = search needs
 
@@ -39,9 +45,6 @@ returns-2 c = search needs
 
 slice-relend-prefix-read-full : tie.Need-slice-relend-prefix-read-full
 slice-relend-prefix-read-full c = search needs
-
-slice-aggregate-read-full-2 : tie.Need-slice-aggregate-read-full-2
-slice-aggregate-read-full-2 c = sym (length-take-le _ (now (c .before .before .before .before .before .before .before .before .before .args .space)) (omega arith))
 
 read-full-requires-2 : tie.Need-read-full-requires-2
 read-full-requires-2 c κs = search needs

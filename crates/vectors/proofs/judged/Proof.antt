@@ -5,14 +5,15 @@ use borrow.Author.Needs.{needs}
 use Rattle.vectors.proofs.judged.Statement.{statement}
 use Rattle.vectors.proofs.judged.Tie as tie
 
-returns : tie.Need-returns
-returns c = search needs
-
 slice-aggregate-agrees : tie.Need-slice-aggregate-agrees
 slice-aggregate-agrees c = sym (length-take-le _ _ (search needs))
 
 slice-aggregate-agrees-2 : tie.Need-slice-aggregate-agrees-2
 slice-aggregate-agrees-2 c = sym (length-take-le _ _ (search needs))
+
+-- ---- what the toolchain asks for, and finds
+returns : tie.Need-returns
+returns c = search needs
 
 agrees-requires : tie.Need-agrees-requires
 agrees-requires c κs = search needs

@@ -5,6 +5,10 @@ use borrow.Author.Needs.{needs}
 use Rattle.vectors.proofs.read_part.Statement.{statement}
 use Rattle.vectors.proofs.read_part.Tie as tie
 
+slice-aggregate-read-full-2 : tie.Need-slice-aggregate-read-full-2
+slice-aggregate-read-full-2 c = sym (length-take-le _ _ (search needs))
+
+-- ---- what the toolchain asks for, and finds
 slice-aggregate-read-full : tie.Need-slice-aggregate-read-full
 slice-aggregate-read-full c = search needs
 
@@ -37,9 +41,6 @@ returns-2 c = search needs
 
 slice-relend-prefix-read-full : tie.Need-slice-relend-prefix-read-full
 slice-relend-prefix-read-full c = search needs
-
-slice-aggregate-read-full-2 : tie.Need-slice-aggregate-read-full-2
-slice-aggregate-read-full-2 c = sym (length-take-le _ _ (search needs))
 
 read-full-requires-2 : tie.Need-read-full-requires-2
 read-full-requires-2 c κs = search needs

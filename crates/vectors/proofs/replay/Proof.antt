@@ -10,6 +10,7 @@ Inv-loop tally₀ n₀ tally n = Unit {0}
 abbrev μ-loop : tie.MeasureT-loop
 μ-loop tally₀ n₀ tally n = 18446744073709551615 - n
 
+-- ---- what the toolchain asks for, and finds
 loop-holds : tie.Need-loop-holds Inv-loop μ-loop
 loop-holds c = search needs
 

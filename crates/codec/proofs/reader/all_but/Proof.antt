@@ -18,6 +18,13 @@ all-behind n l = let e = length-drop n l in take-all (length l - n) (drop n l) (
 none-behind : (n : ℕ) (l : List ℕ) → length l ≤ n → take (length l - length l) (drop (length l) l) ≡ drop n l
 none-behind n l h = all-behind (length l) l ∙ (drop-of-length-le l {i = length l} (omega arith) ∙ sym (drop-of-length-le l {i = n} h))
 
+returns : tie.Need-returns
+returns c = let at-start = c .before .before in none-behind (at-start .args .n) (now (at-start .args .s)) (omega arith)
+
+returns-2 : tie.Need-returns-2
+returns-2 c = let at-start = c .before .before in all-behind (at-start .args .n) (now (at-start .args .s))
+
+-- ---- what the toolchain asks for, and finds
 sub-result : tie.Need-sub-result
 sub-result c = search needs
 
@@ -27,9 +34,6 @@ part-result-start c = search needs
 part-result-end : tie.Need-part-result-end
 part-result-end c = search needs
 
-returns : tie.Need-returns
-returns c = let at-start = c .before .before in none-behind (at-start .args .n) (now (at-start .args .s)) (omega arith)
-
 sub-result-2 : tie.Need-sub-result-2
 sub-result-2 c = search needs
 
@@ -38,9 +42,6 @@ part-result-start-2 c = search needs
 
 part-result-end-2 : tie.Need-part-result-end-2
 part-result-end-2 c = search needs
-
-returns-2 : tie.Need-returns-2
-returns-2 c = let at-start = c .before .before in all-behind (at-start .args .n) (now (at-start .args .s))
 
 pub all-but-spec : {M : Type 1} → statement M
 all-but-spec =

@@ -7,6 +7,14 @@ use borrow.Author.Needs.{needs}
 use Rattle.codec.proofs.reader.behind_boolean.Statement.{statement}
 use Rattle.codec.proofs.reader.behind_boolean.Tie as tie
 
+returns : tie.Need-returns
+returns c = let h = c .before .enum-told .given in rw (h .1) (c .all-but .ensures)
+
+returns-2 : tie.Need-returns-2
+returns-2 c = let h = c .before .enum-told2 .given in let s = now (c .before .before .before .before .args .s) in
+    rw (h .1) (c .all-but2 .ensures ∙ drop-of-length-le s {i = length s} (omega arith))
+
+-- ---- what the toolchain asks for, and finds
 enum-told : tie.Need-enum-told
 enum-told c = search needs
 
@@ -18,12 +26,6 @@ enum-told-2 c = search needs
 
 all-but-requires-2 : tie.Need-all-but-requires-2
 all-but-requires-2 c κs = search needs
-
-returns : tie.Need-returns
-returns c = let h = c .before .enum-told .given in rw (h .1) (c .all-but .ensures)
-
-returns-2 : tie.Need-returns-2
-returns-2 c = let h = c .before .enum-told2 .given in let s = now (c .before .before .before .before .args .s) in rw (h .1) (c .all-but2 .ensures ∙ drop-of-length-le s {i = length s} (omega arith))
 
 pub behind-boolean-spec : {M : Type 1} → statement M
 behind-boolean-spec =

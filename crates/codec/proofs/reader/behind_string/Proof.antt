@@ -15,8 +15,17 @@ use Rattle.codec.proofs.reader.behind_string.Tie as tie
 
 -- the place after a text's 00 is one behind its bytes, which are all there
 behind-got : (s t : List ℕ) (r : TextRead) (n next : ℕ) → r ≡ Got n next → t ≡ drop next s → BehindText r s t
-behind-got s t r n next e f = rw e (λ h. let l = length-take-le n s (omega arith) in let k : next ≡ length (take n s) + 1 = omega arith in f ∙ ap (λ (i : ℕ). drop i s) k)
+behind-got s t r n next e f = rw e (λ h. let l = length-take-le n s (omega arith) in let k : next ≡ length
+    (take n s) + 1 = omega arith in f ∙ ap (λ (i : ℕ). drop i s) k)
 
+returns : tie.Need-returns
+returns c = behind-got _ _ _ _ _ (c .before .before .got .given .1) (c .all-but .ensures)
+
+returns-2 : tie.Need-returns-2
+returns-2 c = let h = c .before .enum-told .given in let s = now (c .before .before .before .before .args .s) in
+    rw (h .1) (λ _. c .all-but2 .ensures ∙ drop-of-length-le s {i = length s} (omega arith))
+
+-- ---- what the toolchain asks for, and finds
 enum-known-got : tie.Need-enum-known-got
 enum-known-got c = search needs
 
@@ -28,12 +37,6 @@ enum-told c = search needs
 
 all-but-requires-2 : tie.Need-all-but-requires-2
 all-but-requires-2 c κs = search needs
-
-returns : tie.Need-returns
-returns c = behind-got _ _ _ _ _ (c .before .before .got .given .1) (c .all-but .ensures)
-
-returns-2 : tie.Need-returns-2
-returns-2 c = let h = c .before .enum-told .given in let s = now (c .before .before .before .before .args .s) in rw (h .1) (λ _. c .all-but2 .ensures ∙ drop-of-length-le s {i = length s} (omega arith))
 
 pub behind-string-spec : {M : Type 1} → statement M
 behind-string-spec =

@@ -19,23 +19,36 @@ abbrev μ-loop : tie.MeasureT-loop
 loop-holds : tie.Need-loop-holds Inv-loop μ-loop
 loop-holds c = (c .pre, refl)
 
+returns : tie.Need-returns Inv-loop μ-loop
+returns c = omega (
+  arith,
+  ap length (before-zero (now (c .before .before .before .before .args .s)) (c .before .before .before .loop .i)
+      (c .before .before .loop-test .taken) (c .if1 .taken)),
+)
+
+loop-again : tie.Need-loop-again Inv-loop μ-loop
+loop-again c = (
+  search needs,
+  omega (
+    arith,
+    ap length
+        (before-more (now (c .before .before .before .before .args .s)) (c .before .before .before .loop .i)
+        (c .before .before .loop-test .taken) (c .if1 .left)),
+  ),
+)
+
+returns-2 : tie.Need-returns-2 Inv-loop μ-loop
+returns-2 c = omega (arith, ap length (before-end (now (c .before .before .args .s)) (c .before .loop .i) (c .loop-test .left)))
+
+-- ---- what the toolchain asks for, and finds
 shared-slice-read-if1 : tie.Need-shared-slice-read-if1 Inv-loop μ-loop
 shared-slice-read-if1 c = search needs
-
-returns : tie.Need-returns Inv-loop μ-loop
-returns c = omega (arith, ap length (before-zero (now (c .before .before .before .before .args .s)) (c .before .before .before .loop .i) (c .before .before .loop-test .taken) (c .if1 .taken)))
 
 add-i : tie.Need-add-i Inv-loop μ-loop
 add-i c = search needs
 
 loop-less : tie.Need-loop-less Inv-loop μ-loop
 loop-less c = search needs
-
-loop-again : tie.Need-loop-again Inv-loop μ-loop
-loop-again c = (search needs, omega (arith, ap length (before-more (now (c .before .before .before .before .args .s)) (c .before .before .before .loop .i) (c .before .before .loop-test .taken) (c .if1 .left))))
-
-returns-2 : tie.Need-returns-2 Inv-loop μ-loop
-returns-2 c = omega (arith, ap length (before-end (now (c .before .before .args .s)) (c .before .loop .i) (c .loop-test .left)))
 
 pub end-of-spec : {M : Type 1} → statement M
 end-of-spec =

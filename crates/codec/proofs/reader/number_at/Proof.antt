@@ -28,11 +28,12 @@ add-wide c = omega arith
 shared-slice-read-wide : tie.Need-shared-slice-read-wide Inv-loop μ-loop
 shared-slice-read-wide c = omega arith
 
-wide-requires : tie.Need-wide-requires Inv-loop μ-loop
-wide-requires c κs = search needs
-
 add-n : tie.Need-add-n Inv-loop μ-loop
-add-n c = omega (arith, small (c .before .before .before .loop .n) (c .before .before .before .loop .i) (c .before .before .before .loop .inv .1 .0) (omega arith))
+add-n c = omega (
+  arith,
+  small (c .before .before .before .loop .n) (c .before .before .before .loop .i)
+      (c .before .before .before .loop .inv .1 .0) (omega arith),
+)
 
 add-i : tie.Need-add-i Inv-loop μ-loop
 add-i c = omega arith
@@ -41,9 +42,18 @@ loop-less : tie.Need-loop-less Inv-loop μ-loop
 loop-less c = omega arith
 
 loop-again : tie.Need-loop-again Inv-loop μ-loop
-loop-again c = let l = c .before .before .before .loop in
-    let a = c .before .before .before .before .before .args in
-    (omega arith, (digit (l .n) (c .wide .result) (l .i) (l .inv .1 .0) (c .wide .ensures .1), rw (c .wide .ensures .0) (number-turn (now (a .s)) (a .at) (l .i) (l .n) (omega arith) (l .inv .1 .1))))
+loop-again c =
+    let at-loop = c .before .before .before in
+    let at-start = at-loop .before .before in
+    let l = at-loop .loop in
+    let a = at-start .args in (
+      omega arith,
+      (
+        digit (l .n) (c .wide .result) (l .i) (l .inv .1 .0) (c .wide .ensures .1),
+        rw (c .wide .ensures .0)
+            (number-turn (now (a .s)) (a .at) (l .i) (l .n) (omega arith) (l .inv .1 .1)),
+      ),
+    )
 
 cast-result : tie.Need-cast-result Inv-loop μ-loop
 cast-result c = omega (arith, small (c .before .loop .n) (c .before .loop .i) (c .before .loop .inv .1 .0) (omega arith))
@@ -52,6 +62,10 @@ returns : tie.Need-returns Inv-loop μ-loop
 returns c = let l = c .before .loop in
     let e : l .i ≡ c .before .before .before .args .w = omega arith in
     (rw e at (l .inv .1 .1), rw e at (l .inv .1 .0))
+
+-- ---- what the toolchain asks for, and finds
+wide-requires : tie.Need-wide-requires Inv-loop μ-loop
+wide-requires c κs = search needs
 
 pub number-at-spec : {M : Type 1} → statement M
 number-at-spec =

@@ -24,23 +24,26 @@ loop-holds c = let a = c .args in let e : a .w - a .w ≡ 0 = omega arith in (om
 sub-i : tie.Need-sub-i Inv-loop μ-loop
 sub-i c = omega arith
 
-cast-s : tie.Need-cast-s Inv-loop μ-loop
-cast-s c = search needs
-
 add-s : tie.Need-add-s Inv-loop μ-loop
 add-s c = omega arith
 
 slice-write-s : tie.Need-slice-write-s Inv-loop μ-loop
-slice-write-s c = let e : length (c .before .loop .s) ≡ length (now (c .before .before .args .s)) = kept (now (c .before .before .args .s)) (bytesOf (c .before .before .args .w - c .before .loop .i) (c .before .before .args .v)) (c .before .before .args .at + c .before .loop .i) (c .before .loop .inv .1 .1) in omega arith
+slice-write-s c = let e : length (c .before .loop .s) ≡ length (now (c .before .before .args .s)) = kept
+    (now (c .before .before .args .s))
+    (bytesOf (c .before .before .args .w - c .before .loop .i) (c .before .before .args .v))
+    (c .before .before .args .at + c .before .loop .i) (c .before .loop .inv .1 .1) in omega arith
 
 loop-less : tie.Need-loop-less Inv-loop μ-loop
 loop-less c = omega arith
 
 loop-again : tie.Need-loop-again Inv-loop μ-loop
-loop-again c = let l = c .before .loop in let a = c .before .before .args in put-back (now (a .s)) (a .at) (a .w) (a .v) (l .i) (l .x) (l .s) (c .loop-test .taken) (l .inv .0) (l .inv .1 .0) (l .inv .1 .1)
+loop-again c = let l = c .before .loop in let a = c .before .before .args in put-back (now (a .s)) (a .at) (a .w) (a .v)
+    (l .i) (l .x) (l .s) (c .loop-test .taken) (l .inv .0) (l .inv .1 .0) (l .inv .1 .1)
 
 same-length : tie.Need-same-length Inv-loop μ-loop
-same-length c = kept (now (c .before .before .args .s)) (bytesOf (c .before .before .args .w - c .before .loop .i) (c .before .before .args .v)) (c .before .before .args .at + c .before .loop .i) (c .before .loop .inv .1 .1)
+same-length c = kept (now (c .before .before .args .s))
+    (bytesOf (c .before .before .args .w - c .before .loop .i) (c .before .before .args .v))
+    (c .before .before .args .at + c .before .loop .i) (c .before .loop .inv .1 .1)
 
 returns : tie.Need-returns Inv-loop μ-loop
 returns c = let l = c .before .loop in
@@ -49,6 +52,10 @@ returns c = let l = c .before .loop in
     let f : a .at + 0 ≡ a .at = omega arith in
     let g : a .w - 0 ≡ a .w = omega arith in
     rw (e, f, g) at (l .inv .1 .1)
+
+-- ---- what the toolchain asks for, and finds
+cast-s : tie.Need-cast-s Inv-loop μ-loop
+cast-s c = search needs
 
 pub put-back-spec : {M : Type 1} → statement M
 put-back-spec =

@@ -10,6 +10,10 @@ use Rattle.codec.proofs.writer.write_with_byte.Tie as tie
 returns : tie.Need-returns
 returns c = writes-none (now (c .before .args .buffer)) (c .before .args .sub ∷ c .before .args .value ∷ []) (c .if1 .taken)
 
+returns-2 : tie.Need-returns-2
+returns-2 c = writes-room (now (c .before .args .buffer)) (c .before .args .sub ∷ c .before .args .value ∷ []) _ (c .if1 .left) refl
+
+-- ---- what the toolchain asks for, and finds
 slice-write-buffer : tie.Need-slice-write-buffer
 slice-write-buffer c = search needs
 
@@ -18,9 +22,6 @@ slice-write-buffer-2 c = search needs
 
 same-length : tie.Need-same-length
 same-length c = search needs
-
-returns-2 : tie.Need-returns-2
-returns-2 c = writes-room (now (c .before .args .buffer)) (c .before .args .sub ∷ c .before .args .value ∷ []) _ (c .if1 .left) refl
 
 pub write-with-byte-spec : {M : Type 1} → statement M
 write-with-byte-spec =

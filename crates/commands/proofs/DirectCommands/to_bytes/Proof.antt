@@ -11,14 +11,44 @@ use borrow.Author.Needs.{needs}
 use Rattle.commands.proofs.DirectCommands.to_bytes.Statement.{statement}
 use Rattle.commands.proofs.DirectCommands.to_bytes.Tie as tie
 
+returns : tie.Need-returns
+returns c =
+    let at-if1 = c .before in
+    let at-is-made = at-if1 .before in
+    let at-start = at-is-made .before .before .before .before in
+    writes-stop (stopWriting (at-start .args .self) (length (now (at-start .args .buffer))))
+    (payloadOf (at-start .args .self)) (now (at-start .args .buffer)) BufferOverflow
+    (stop-short (at-start .args .self) (length (now (at-start .args .buffer)))
+    (sym (at-is-made .is-made .ensures) ∙ at-if1 .if1 .taken) (c .if2 .taken))
+
+returns-2 : tie.Need-returns-2
+returns-2 c =
+    let at-write-made = c .before .before in
+    let at-if2 = at-write-made .before .before .before in
+    let at-if1 = at-if2 .before in
+    let at-is-made = at-if1 .before in
+    let at-start = at-is-made .before .before .before .before in
+    rw (
+      stop-body (at-start .args .self) (length (now (at-start .args .buffer)))
+          (sym (at-is-made .is-made .ensures) ∙ at-if1 .if1 .taken) (at-if2 .if2 .left),
+      payload-is (at-start .args .self),
+    ) (at-write-made .write-made .ensures)
+
+returns-3 : tie.Need-returns-3
+returns-3 c =
+    let at-is-made = c .before in
+    let at-start = at-is-made .before .before .before .before in
+    writes-stop (stopWriting (at-start .args .self) (length (now (at-start .args .buffer))))
+    (payloadOf (at-start .args .self)) (now (at-start .args .buffer)) RecordNotMade
+    (stop-unmade (at-start .args .self) (length (now (at-start .args .buffer)))
+    (sym (at-is-made .is-made .ensures) ∙ c .if1 .left))
+
+-- ---- what the toolchain asks for, and finds
 slice-aggregate-is-made : tie.Need-slice-aggregate-is-made
 slice-aggregate-is-made c = search needs
 
 is-made-requires : tie.Need-is-made-requires
 is-made-requires c κs = search needs
-
-returns : tie.Need-returns
-returns c = writes-stop (stopWriting (c .before .before .before .before .before .before .args .self) (length (now (c .before .before .before .before .before .before .args .buffer)))) (payloadOf (c .before .before .before .before .before .before .args .self)) (now (c .before .before .before .before .before .before .args .buffer)) BufferOverflow (stop-short (c .before .before .before .before .before .before .args .self) (length (now (c .before .before .before .before .before .before .args .buffer))) (sym (c .before .before .is-made .ensures) ∙ c .before .if1 .taken) (c .if2 .taken))
 
 slice-aggregate-write-made : tie.Need-slice-aggregate-write-made
 slice-aggregate-write-made c = search needs
@@ -28,12 +58,6 @@ write-made-requires c κs = search needs
 
 same-length : tie.Need-same-length
 same-length c = search needs
-
-returns-2 : tie.Need-returns-2
-returns-2 c = rw (stop-body (c .before .before .before .before .before .before .before .before .before .before .before .args .self) (length (now (c .before .before .before .before .before .before .before .before .before .before .before .args .buffer))) (sym (c .before .before .before .before .before .before .before .is-made .ensures) ∙ c .before .before .before .before .before .before .if1 .taken) (c .before .before .before .before .before .if2 .left), payload-is (c .before .before .before .before .before .before .before .before .before .before .before .args .self)) (c .before .before .write-made .ensures)
-
-returns-3 : tie.Need-returns-3
-returns-3 c = writes-stop (stopWriting (c .before .before .before .before .before .args .self) (length (now (c .before .before .before .before .before .args .buffer)))) (payloadOf (c .before .before .before .before .before .args .self)) (now (c .before .before .before .before .before .args .buffer)) RecordNotMade (stop-unmade (c .before .before .before .before .before .args .self) (length (now (c .before .before .before .before .before .args .buffer))) (sym (c .before .is-made .ensures) ∙ c .if1 .left))
 
 pub to-bytes-spec : {M : Type 1} → statement M
 to-bytes-spec =

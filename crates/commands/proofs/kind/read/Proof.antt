@@ -9,23 +9,56 @@ use borrow.Author.Needs.{needs}
 use Rattle.commands.proofs.kind.read.Statement.{statement}
 use Rattle.commands.proofs.kind.read.Tie as tie
 
+shared-slice-read-of-family : tie.Need-shared-slice-read-of-family
+shared-slice-read-of-family c =
+    let at-enum-told = c .before in
+    let at-judge = at-enum-told .before .before in
+    let at-start = at-judge .before .before in
+    let l = judged-long (now (at-start .args .payload)) _ (at-judge .judge .ensures) (at-enum-told .enum-told .given .1) in search needs
+
+sub-of-family : tie.Need-sub-of-family
+sub-of-family c =
+    let at-enum-told = c .before in
+    let at-judge = at-enum-told .before .before in
+    let at-start = at-judge .before .before in
+    let l = judged-long (now (at-start .args .payload)) _ (at-judge .judge .ensures) (at-enum-told .enum-told .given .1) in search needs
+
+sub-of-family-2 : tie.Need-sub-of-family-2
+sub-of-family-2 c =
+    let at-enum-told = c .before in
+    let at-judge = at-enum-told .before .before in
+    let at-start = at-judge .before .before in
+    let l = judged-long (now (at-start .args .payload)) _ (at-judge .judge .ensures) (at-enum-told .enum-told .given .1) in search needs
+
+part-of-family-start : tie.Need-part-of-family-start
+part-of-family-start c =
+    let at-enum-told = c .before in
+    let at-judge = at-enum-told .before .before in
+    let at-start = at-judge .before .before in
+    let l = judged-long (now (at-start .args .payload)) _ (at-judge .judge .ensures) (at-enum-told .enum-told .given .1) in search needs
+
+returns : tie.Need-returns
+returns c =
+    let at-enum-told = c .before .before .before in
+    let at-judge = at-enum-told .before .before in
+    let at-start = at-judge .before .before in
+    let e : length (now (at-start .args .payload)) - 4 ≡ length (now (at-start .args .payload)) - 1 - 3 = omega arith in
+    rw (judged-kind (now (at-start .args .payload)) _ (at-judge .judge .ensures) (at-enum-told .enum-told .given .1), e)
+    (c .of-family .ensures)
+
+returns-2 : tie.Need-returns-2
+returns-2 c =
+    let at-r = c .before in
+    let at-judge = at-r .before .before in
+    let at-start = at-judge .before .before in
+    rw (judged-refused (now (at-start .args .payload)) _ _ (at-judge .judge .ensures) (at-r .r .given .1))
+
+-- ---- what the toolchain asks for, and finds
 judge-requires : tie.Need-judge-requires
 judge-requires c κs = search needs
 
 enum-told : tie.Need-enum-told
 enum-told c = search needs
-
-shared-slice-read-of-family : tie.Need-shared-slice-read-of-family
-shared-slice-read-of-family c = let l = judged-long (now (c .before .before .before .before .before .args .payload)) _ (c .before .before .before .judge .ensures) (c .before .enum-told .given .1) in search needs
-
-sub-of-family : tie.Need-sub-of-family
-sub-of-family c = let l = judged-long (now (c .before .before .before .before .before .args .payload)) _ (c .before .before .before .judge .ensures) (c .before .enum-told .given .1) in search needs
-
-sub-of-family-2 : tie.Need-sub-of-family-2
-sub-of-family-2 c = let l = judged-long (now (c .before .before .before .before .before .args .payload)) _ (c .before .before .before .judge .ensures) (c .before .enum-told .given .1) in search needs
-
-part-of-family-start : tie.Need-part-of-family-start
-part-of-family-start c = let l = judged-long (now (c .before .before .before .before .before .args .payload)) _ (c .before .before .before .judge .ensures) (c .before .enum-told .given .1) in search needs
 
 part-of-family-end : tie.Need-part-of-family-end
 part-of-family-end c = search needs
@@ -35,13 +68,6 @@ of-family-requires c κs = search needs
 
 enum-known-r : tie.Need-enum-known-r
 enum-known-r c = search needs
-
-returns : tie.Need-returns
-returns c = let e : length (now (c .before .before .before .before .before .before .before .args .payload)) - 4 ≡ length (now (c .before .before .before .before .before .before .before .args .payload)) - 1 - 3 = omega arith in
-    rw (judged-kind (now (c .before .before .before .before .before .before .before .args .payload)) _ (c .before .before .before .before .before .judge .ensures) (c .before .before .before .enum-told .given .1), e) (c .of-family .ensures)
-
-returns-2 : tie.Need-returns-2
-returns-2 c = rw (judged-refused (now (c .before .before .before .before .before .args .payload)) _ _ (c .before .before .before .judge .ensures) (c .before .r .given .1))
 
 pub read-spec : {M : Type 1} → statement M
 read-spec =

@@ -23,6 +23,163 @@ use borrow.Author.Needs.{needs}
 use Rattle.commands.proofs.reading.read_family.Statement.{statement}
 use Rattle.commands.proofs.reading.read_family.Tie as tie
 
+returns : tie.Need-returns
+returns c =
+    let at-c = c .before .before in
+    let at-read = at-c .before .before in
+    let at-match = at-read .before in
+    rw (at-match .match .keys1)
+    (plain-got (c .plain .result) fcRows (λ b. Fc (fcOf b)) _ _ _ (fcSays (at-c .c .given .0 .0))
+    (Fc (at-c .c .given .0 .0)) (rw (at-c .c .given .1) at (at-read .read .ensures))
+    (ap (λ (x : FcCommand). Fc x) (fc-of (at-c .c .given .0 .0))) (c .plain .ensures))
+
+returns-2 : tie.Need-returns-2
+returns-2 c =
+    let at-r = c .before .before in
+    let at-read = at-r .before .before in
+    let at-match = at-read .before in
+    rw (at-match .match .keys1) (plain-refused (c .refused-with .result) fcRows (λ b. Fc (fcOf b)) _ _ _ _ 0
+    (rw (at-r .r .given .1) at (at-read .read .ensures)) (c .refused-with .ensures))
+
+returns-3 : tie.Need-returns-3
+returns-3 c =
+    let at-c2 = c .before .before in
+    let at-read2 = at-c2 .before .before in
+    let at-match = at-read2 .before in
+    rw (at-match .match .keys2) (plain-got (c .plain2 .result) osdRows (λ b. Osd (osdOf b)) _ _ _
+    (osdSays (at-c2 .c2 .given .0 .0)) (Osd (at-c2 .c2 .given .0 .0))
+    (rw (at-c2 .c2 .given .1) at (at-read2 .read2 .ensures))
+    (ap (λ (x : OsdCommand). Osd x) (osd-of (at-c2 .c2 .given .0 .0))) (c .plain2 .ensures))
+
+returns-4 : tie.Need-returns-4
+returns-4 c =
+    let at-r2 = c .before .before in
+    let at-read2 = at-r2 .before .before in
+    let at-match = at-read2 .before in
+    rw (at-match .match .keys2) (plain-refused (c .refused-with2 .result) osdRows (λ b. Osd (osdOf b)) _ _ _ _ 0
+    (rw (at-r2 .r2 .given .1) at (at-read2 .read2 .ensures)) (c .refused-with2 .ensures))
+
+returns-5 : tie.Need-returns-5
+returns-5 c =
+    let at-c3 = c .before .before in
+    let at-read3 = at-c3 .before .before in
+    let at-match = at-read3 .before in
+    rw (at-match .match .keys3) (plain-got (c .plain3 .result) vtxRows (λ b. Vtx (vtxOf b)) _ _ _
+    (vtxSays (at-c3 .c3 .given .0 .0)) (Vtx (at-c3 .c3 .given .0 .0))
+    (rw (at-c3 .c3 .given .1) at (at-read3 .read3 .ensures))
+    (ap (λ (x : VtxCommand). Vtx x) (vtx-of (at-c3 .c3 .given .0 .0))) (c .plain3 .ensures))
+
+returns-6 : tie.Need-returns-6
+returns-6 c =
+    let at-r3 = c .before .before in
+    let at-read3 = at-r3 .before .before in
+    let at-match = at-read3 .before in
+    rw (at-match .match .keys3) (plain-refused (c .refused-with3 .result) vtxRows (λ b. Vtx (vtxOf b)) _ _ _ _ 0
+    (rw (at-r3 .r3 .given .1) at (at-read3 .read3 .ensures)) (c .refused-with3 .ensures))
+
+returns-7 : tie.Need-returns-7
+returns-7 c =
+    let at-c4 = c .before .before in
+    let at-read4 = at-c4 .before .before in
+    let at-match = at-read4 .before in
+    rw (at-match .match .keys4) (plain-got (c .plain4 .result) ledRows (λ b. Led (ledOf b)) _ _ _
+    (ledSays (at-c4 .c4 .given .0 .0)) (Led (at-c4 .c4 .given .0 .0))
+    (rw (at-c4 .c4 .given .1) at (at-read4 .read4 .ensures))
+    (ap (λ (x : LedCommand). Led x) (led-of (at-c4 .c4 .given .0 .0))) (c .plain4 .ensures))
+
+returns-8 : tie.Need-returns-8
+returns-8 c =
+    let at-r4 = c .before .before in
+    let at-read4 = at-r4 .before .before in
+    let at-match = at-read4 .before in
+    rw (at-match .match .keys4) (plain-refused (c .refused-with4 .result) ledRows (λ b. Led (ledOf b)) _ _ _ _ 0
+    (rw (at-r4 .r4 .given .1) at (at-read4 .read4 .ensures)) (c .refused-with4 .ensures))
+
+returns-9 : tie.Need-returns-9
+returns-9 c =
+    let at-c5 = c .before .before in
+    let at-read5 = at-c5 .before .before in
+    let at-match = at-read5 .before in
+    rw (at-match .match .keys5) (plain-got (c .plain5 .result) generalRows (λ b. General (generalOf b)) _ _ _
+    (generalSays (at-c5 .c5 .given .0 .0)) (General (at-c5 .c5 .given .0 .0))
+    (rw (at-c5 .c5 .given .1) at (at-read5 .read5 .ensures))
+    (ap (λ (x : GeneralCommand). General x) (general-of (at-c5 .c5 .given .0 .0))) (c .plain5 .ensures))
+
+returns-10 : tie.Need-returns-10
+returns-10 c =
+    let at-r5 = c .before .before in
+    let at-read5 = at-r5 .before .before in
+    let at-match = at-read5 .before in
+    rw (at-match .match .keys5) (plain-refused (c .refused-with5 .result) generalRows (λ b. General (generalOf b)) _ _ _
+    _ 0 (rw (at-r5 .r5 .given .1) at (at-read5 .read5 .ensures)) (c .refused-with5 .ensures))
+
+returns-11 : tie.Need-returns-11
+returns-11 c =
+    let at-c6 = c .before .before in
+    let at-read6 = at-c6 .before .before in
+    let at-match = at-read6 .before in
+    rw (at-match .match .keys6) (plain-got (c .plain6 .result) crossfireRows (λ b. Crossfire (crossfireOf b)) _ _ _
+    (crossfireSays (at-c6 .c6 .given .0 .0)) (Crossfire (at-c6 .c6 .given .0 .0))
+    (rw (at-c6 .c6 .given .1) at (at-read6 .read6 .ensures))
+    (ap (λ (x : CrossfireCommand). Crossfire x) (crossfire-of (at-c6 .c6 .given .0 .0))) (c .plain6 .ensures))
+
+returns-12 : tie.Need-returns-12
+returns-12 c =
+    let at-r6 = c .before .before in
+    let at-read6 = at-r6 .before .before in
+    let at-match = at-read6 .before in
+    rw (at-match .match .keys6) (plain-refused (c .refused-with6 .result) crossfireRows (λ b. Crossfire (crossfireOf b))
+    _ _ _ _ 0 (rw (at-r6 .r6 .given .1) at (at-read6 .read6 .ensures)) (c .refused-with6 .ensures))
+
+returns-13 : tie.Need-returns-13
+returns-13 c =
+    let at-c7 = c .before .before in
+    let at-read7 = at-c7 .before .before in
+    let at-match = at-read7 .before in
+    rw (at-match .match .keys7) (plain-got (c .plain7 .result) flowRows (λ b. FlowControl (flowOf b)) _ _ _
+    (flowSays (at-c7 .c7 .given .0 .0)) (FlowControl (at-c7 .c7 .given .0 .0))
+    (rw (at-c7 .c7 .given .1) at (at-read7 .read7 .ensures))
+    (ap (λ (x : FlowControlCommand). FlowControl x) (flow-of (at-c7 .c7 .given .0 .0))) (c .plain7 .ensures))
+
+returns-14 : tie.Need-returns-14
+returns-14 c =
+    let at-r7 = c .before .before in
+    let at-read7 = at-r7 .before .before in
+    let at-match = at-read7 .before in
+    rw (at-match .match .keys7) (plain-refused (c .refused-with7 .result) flowRows (λ b. FlowControl (flowOf b)) _ _ _ _
+    0 (rw (at-r7 .r7 .given .1) at (at-read7 .read7 .ensures)) (c .refused-with7 .ensures))
+
+returns-15 : tie.Need-returns-15
+returns-15 c = rw (c .before .match .keys8) (c .read-screen .ensures)
+
+returns-16 : tie.Need-returns-16
+returns-16 c = rw (c .before .match .keys9) (c .read-ack .ensures)
+
+returns-17 : tie.Need-returns-17
+returns-17 c = rw (c .before .match .keys10) (c .refused-with8 .ensures)
+
+returns-18 : tie.Need-returns-18
+returns-18 c = rw (c .before .match .keys11) (c .refused-with9 .ensures)
+
+returns-19 : tie.Need-returns-19
+returns-19 c = let k = c .before .match .rest in rw (
+  ne-eqb (c .before .before .before .args .id) 0x03 (k .0 .1),
+  ne-eqb (c .before .before .before .args .id) 0x13 (k .1),
+  ne-eqb (c .before .before .before .args .id) 0x01
+      (k .0 .0 .0 .0 .0 .0 .0 .0 .0 .0 .1),
+  ne-eqb (c .before .before .before .args .id) 0x05
+      (k .0 .0 .0 .0 .0 .0 .0 .0 .0 .1),
+  ne-eqb (c .before .before .before .args .id) 0x08 (k .0 .0 .0 .0 .0 .0 .0 .0 .1),
+  ne-eqb (c .before .before .before .args .id) 0x09 (k .0 .0 .0 .0 .0 .0 .0 .1),
+  ne-eqb (c .before .before .before .args .id) 0x0A (k .0 .0 .0 .0 .0 .0 .1),
+  ne-eqb (c .before .before .before .args .id) 0x10 (k .0 .0 .0 .0 .0 .1),
+  ne-eqb (c .before .before .before .args .id) 0x20 (k .0 .0 .0 .0 .1),
+  ne-eqb (c .before .before .before .args .id)
+      0x22 (k .0 .0 .0 .1),
+  ne-eqb (c .before .before .before .args .id) 0xFF (k .0 .0 .1),
+) (c .refused-with10 .ensures)
+
+-- ---- what the toolchain asks for, and finds
 read-requires : tie.Need-read-requires
 read-requires c κs = search needs
 
@@ -142,63 +299,6 @@ refused-with-requires-9 c κs = search needs
 
 refused-with-requires-10 : tie.Need-refused-with-requires-10
 refused-with-requires-10 c κs = search needs
-
-returns : tie.Need-returns
-returns c = rw (c .before .before .before .before .before .match .keys1) (plain-got (c .plain .result) fcRows (λ b. Fc (fcOf b)) _ _ _ (fcSays (c .before .before .c .given .0 .0)) (Fc (c .before .before .c .given .0 .0)) (rw (c .before .before .c .given .1) at (c .before .before .before .before .read .ensures)) (ap (λ (x : FcCommand). Fc x) (fc-of (c .before .before .c .given .0 .0))) (c .plain .ensures))
-
-returns-2 : tie.Need-returns-2
-returns-2 c = rw (c .before .before .before .before .before .match .keys1) (plain-refused (c .refused-with .result) fcRows (λ b. Fc (fcOf b)) _ _ _ _ 0 (rw (c .before .before .r .given .1) at (c .before .before .before .before .read .ensures)) (c .refused-with .ensures))
-
-returns-3 : tie.Need-returns-3
-returns-3 c = rw (c .before .before .before .before .before .match .keys2) (plain-got (c .plain2 .result) osdRows (λ b. Osd (osdOf b)) _ _ _ (osdSays (c .before .before .c2 .given .0 .0)) (Osd (c .before .before .c2 .given .0 .0)) (rw (c .before .before .c2 .given .1) at (c .before .before .before .before .read2 .ensures)) (ap (λ (x : OsdCommand). Osd x) (osd-of (c .before .before .c2 .given .0 .0))) (c .plain2 .ensures))
-
-returns-4 : tie.Need-returns-4
-returns-4 c = rw (c .before .before .before .before .before .match .keys2) (plain-refused (c .refused-with2 .result) osdRows (λ b. Osd (osdOf b)) _ _ _ _ 0 (rw (c .before .before .r2 .given .1) at (c .before .before .before .before .read2 .ensures)) (c .refused-with2 .ensures))
-
-returns-5 : tie.Need-returns-5
-returns-5 c = rw (c .before .before .before .before .before .match .keys3) (plain-got (c .plain3 .result) vtxRows (λ b. Vtx (vtxOf b)) _ _ _ (vtxSays (c .before .before .c3 .given .0 .0)) (Vtx (c .before .before .c3 .given .0 .0)) (rw (c .before .before .c3 .given .1) at (c .before .before .before .before .read3 .ensures)) (ap (λ (x : VtxCommand). Vtx x) (vtx-of (c .before .before .c3 .given .0 .0))) (c .plain3 .ensures))
-
-returns-6 : tie.Need-returns-6
-returns-6 c = rw (c .before .before .before .before .before .match .keys3) (plain-refused (c .refused-with3 .result) vtxRows (λ b. Vtx (vtxOf b)) _ _ _ _ 0 (rw (c .before .before .r3 .given .1) at (c .before .before .before .before .read3 .ensures)) (c .refused-with3 .ensures))
-
-returns-7 : tie.Need-returns-7
-returns-7 c = rw (c .before .before .before .before .before .match .keys4) (plain-got (c .plain4 .result) ledRows (λ b. Led (ledOf b)) _ _ _ (ledSays (c .before .before .c4 .given .0 .0)) (Led (c .before .before .c4 .given .0 .0)) (rw (c .before .before .c4 .given .1) at (c .before .before .before .before .read4 .ensures)) (ap (λ (x : LedCommand). Led x) (led-of (c .before .before .c4 .given .0 .0))) (c .plain4 .ensures))
-
-returns-8 : tie.Need-returns-8
-returns-8 c = rw (c .before .before .before .before .before .match .keys4) (plain-refused (c .refused-with4 .result) ledRows (λ b. Led (ledOf b)) _ _ _ _ 0 (rw (c .before .before .r4 .given .1) at (c .before .before .before .before .read4 .ensures)) (c .refused-with4 .ensures))
-
-returns-9 : tie.Need-returns-9
-returns-9 c = rw (c .before .before .before .before .before .match .keys5) (plain-got (c .plain5 .result) generalRows (λ b. General (generalOf b)) _ _ _ (generalSays (c .before .before .c5 .given .0 .0)) (General (c .before .before .c5 .given .0 .0)) (rw (c .before .before .c5 .given .1) at (c .before .before .before .before .read5 .ensures)) (ap (λ (x : GeneralCommand). General x) (general-of (c .before .before .c5 .given .0 .0))) (c .plain5 .ensures))
-
-returns-10 : tie.Need-returns-10
-returns-10 c = rw (c .before .before .before .before .before .match .keys5) (plain-refused (c .refused-with5 .result) generalRows (λ b. General (generalOf b)) _ _ _ _ 0 (rw (c .before .before .r5 .given .1) at (c .before .before .before .before .read5 .ensures)) (c .refused-with5 .ensures))
-
-returns-11 : tie.Need-returns-11
-returns-11 c = rw (c .before .before .before .before .before .match .keys6) (plain-got (c .plain6 .result) crossfireRows (λ b. Crossfire (crossfireOf b)) _ _ _ (crossfireSays (c .before .before .c6 .given .0 .0)) (Crossfire (c .before .before .c6 .given .0 .0)) (rw (c .before .before .c6 .given .1) at (c .before .before .before .before .read6 .ensures)) (ap (λ (x : CrossfireCommand). Crossfire x) (crossfire-of (c .before .before .c6 .given .0 .0))) (c .plain6 .ensures))
-
-returns-12 : tie.Need-returns-12
-returns-12 c = rw (c .before .before .before .before .before .match .keys6) (plain-refused (c .refused-with6 .result) crossfireRows (λ b. Crossfire (crossfireOf b)) _ _ _ _ 0 (rw (c .before .before .r6 .given .1) at (c .before .before .before .before .read6 .ensures)) (c .refused-with6 .ensures))
-
-returns-13 : tie.Need-returns-13
-returns-13 c = rw (c .before .before .before .before .before .match .keys7) (plain-got (c .plain7 .result) flowRows (λ b. FlowControl (flowOf b)) _ _ _ (flowSays (c .before .before .c7 .given .0 .0)) (FlowControl (c .before .before .c7 .given .0 .0)) (rw (c .before .before .c7 .given .1) at (c .before .before .before .before .read7 .ensures)) (ap (λ (x : FlowControlCommand). FlowControl x) (flow-of (c .before .before .c7 .given .0 .0))) (c .plain7 .ensures))
-
-returns-14 : tie.Need-returns-14
-returns-14 c = rw (c .before .before .before .before .before .match .keys7) (plain-refused (c .refused-with7 .result) flowRows (λ b. FlowControl (flowOf b)) _ _ _ _ 0 (rw (c .before .before .r7 .given .1) at (c .before .before .before .before .read7 .ensures)) (c .refused-with7 .ensures))
-
-returns-15 : tie.Need-returns-15
-returns-15 c = rw (c .before .match .keys8) (c .read-screen .ensures)
-
-returns-16 : tie.Need-returns-16
-returns-16 c = rw (c .before .match .keys9) (c .read-ack .ensures)
-
-returns-17 : tie.Need-returns-17
-returns-17 c = rw (c .before .match .keys10) (c .refused-with8 .ensures)
-
-returns-18 : tie.Need-returns-18
-returns-18 c = rw (c .before .match .keys11) (c .refused-with9 .ensures)
-
-returns-19 : tie.Need-returns-19
-returns-19 c = let k = c .before .match .rest in rw (ne-eqb (c .before .before .before .args .id) 0x03 (k .0 .1), ne-eqb (c .before .before .before .args .id) 0x13 (k .1), ne-eqb (c .before .before .before .args .id) 0x01 (k .0 .0 .0 .0 .0 .0 .0 .0 .0 .0 .1), ne-eqb (c .before .before .before .args .id) 0x05 (k .0 .0 .0 .0 .0 .0 .0 .0 .0 .1), ne-eqb (c .before .before .before .args .id) 0x08 (k .0 .0 .0 .0 .0 .0 .0 .0 .1), ne-eqb (c .before .before .before .args .id) 0x09 (k .0 .0 .0 .0 .0 .0 .0 .1), ne-eqb (c .before .before .before .args .id) 0x0A (k .0 .0 .0 .0 .0 .0 .1), ne-eqb (c .before .before .before .args .id) 0x10 (k .0 .0 .0 .0 .0 .1), ne-eqb (c .before .before .before .args .id) 0x20 (k .0 .0 .0 .0 .1), ne-eqb (c .before .before .before .args .id) 0x22 (k .0 .0 .0 .1), ne-eqb (c .before .before .before .args .id) 0xFF (k .0 .0 .1)) (c .refused-with10 .ensures)
 
 pub read-family-spec : {M : Type 1} → statement M
 read-family-spec =

@@ -3,6 +3,61 @@ use borrow.Author.Needs.{needs}
 use Rattle.commands.proofs.writing.write_body.Statement.{statement}
 use Rattle.commands.proofs.writing.write_body.Tie as tie
 
+returns : tie.Need-returns
+returns c =
+    let at-write-to = c .before .before in
+    let at-payload = at-write-to .before .before .before in
+    rw (at-payload .payload .given .1) (at-write-to .write-to .ensures)
+
+returns-2 : tie.Need-returns-2
+returns-2 c =
+    let at-write-to2 = c .before .before in
+    let at-payload2 = at-write-to2 .before .before .before in
+    rw (at-payload2 .payload2 .given .1) (at-write-to2 .write-to2 .ensures)
+
+returns-3 : tie.Need-returns-3
+returns-3 c =
+    let at-write-to3 = c .before .before in
+    let at-payload3 = at-write-to3 .before .before .before in
+    rw (at-payload3 .payload3 .given .1) (at-write-to3 .write-to3 .ensures)
+
+returns-4 : tie.Need-returns-4
+returns-4 c =
+    let at-write-to4 = c .before .before in
+    let at-payload4 = at-write-to4 .before .before .before in
+    rw (at-payload4 .payload4 .given .1) (at-write-to4 .write-to4 .ensures)
+
+returns-5 : tie.Need-returns-5
+returns-5 c =
+    let at-write-to5 = c .before .before in
+    let at-payload5 = at-write-to5 .before .before .before in
+    rw (at-payload5 .payload5 .given .1) (at-write-to5 .write-to5 .ensures)
+
+returns-6 : tie.Need-returns-6
+returns-6 c =
+    let at-write-to6 = c .before .before in
+    let at-payload6 = at-write-to6 .before .before .before in
+    rw (at-payload6 .payload6 .given .1) (at-write-to6 .write-to6 .ensures)
+
+returns-7 : tie.Need-returns-7
+returns-7 c =
+    let at-write-to7 = c .before .before in
+    let at-payload7 = at-write-to7 .before .before .before in
+    rw (at-payload7 .payload7 .given .1) (at-write-to7 .write-to7 .ensures)
+
+returns-8 : tie.Need-returns-8
+returns-8 c =
+    let at-write-to8 = c .before .before in
+    let at-payload8 = at-write-to8 .before .before .before in
+    rw (at-payload8 .payload8 .given .1) (at-write-to8 .write-to8 .ensures)
+
+returns-9 : tie.Need-returns-9
+returns-9 c =
+    let at-write-to9 = c .before .before in
+    let at-payload9 = at-write-to9 .before .before .before in
+    rw (at-payload9 .payload9 .given .1) (at-write-to9 .write-to9 .ensures)
+
+-- ---- what the toolchain asks for, and finds
 enum-known-payload : tie.Need-enum-known-payload
 enum-known-payload c = search needs
 
@@ -60,56 +115,29 @@ write-to-requires-9 c κs = search needs
 same-length : tie.Need-same-length
 same-length c = search needs
 
-returns : tie.Need-returns
-returns c = rw (c .before .before .before .before .before .payload .given .1) (c .before .before .write-to .ensures)
-
 same-length-2 : tie.Need-same-length-2
 same-length-2 c = search needs
-
-returns-2 : tie.Need-returns-2
-returns-2 c = rw (c .before .before .before .before .before .payload2 .given .1) (c .before .before .write-to2 .ensures)
 
 same-length-3 : tie.Need-same-length-3
 same-length-3 c = search needs
 
-returns-3 : tie.Need-returns-3
-returns-3 c = rw (c .before .before .before .before .before .payload3 .given .1) (c .before .before .write-to3 .ensures)
-
 same-length-4 : tie.Need-same-length-4
 same-length-4 c = search needs
-
-returns-4 : tie.Need-returns-4
-returns-4 c = rw (c .before .before .before .before .before .payload4 .given .1) (c .before .before .write-to4 .ensures)
 
 same-length-5 : tie.Need-same-length-5
 same-length-5 c = search needs
 
-returns-5 : tie.Need-returns-5
-returns-5 c = rw (c .before .before .before .before .before .payload5 .given .1) (c .before .before .write-to5 .ensures)
-
 same-length-6 : tie.Need-same-length-6
 same-length-6 c = search needs
-
-returns-6 : tie.Need-returns-6
-returns-6 c = rw (c .before .before .before .before .before .payload6 .given .1) (c .before .before .write-to6 .ensures)
 
 same-length-7 : tie.Need-same-length-7
 same-length-7 c = search needs
 
-returns-7 : tie.Need-returns-7
-returns-7 c = rw (c .before .before .before .before .before .payload7 .given .1) (c .before .before .write-to7 .ensures)
-
 same-length-8 : tie.Need-same-length-8
 same-length-8 c = search needs
 
-returns-8 : tie.Need-returns-8
-returns-8 c = rw (c .before .before .before .before .before .payload8 .given .1) (c .before .before .write-to8 .ensures)
-
 same-length-9 : tie.Need-same-length-9
 same-length-9 c = search needs
-
-returns-9 : tie.Need-returns-9
-returns-9 c = rw (c .before .before .before .before .before .payload9 .given .1) (c .before .before .write-to9 .ensures)
 
 pub write-body-spec : {M : Type 1} → statement M
 write-body-spec =

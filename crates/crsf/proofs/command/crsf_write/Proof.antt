@@ -2,11 +2,31 @@
 use denote.Ref.{now}
 use Rattle.images.specs.Record.{recordFrom}
 use Rattle.crsf.proofs.Refusals.{record-some}
-use Rattle.crsf.proofs.WritesOut.{writes-on, writes-not}
+use Rattle.images.proofs.WordLaws.{writes-on, writes-not}
 use borrow.Author.Needs.{needs}
 use Rattle.crsf.proofs.command.crsf_write.Statement.{statement}
 use Rattle.crsf.proofs.command.crsf_write.Tie as tie
 
+returns : tie.Need-returns
+returns c =
+    let at-to-bytes = c .before .before .before in
+    let at-enum-told = at-to-bytes .before .before in
+    let at-from = at-enum-told .before .before .before in
+    let at-start = at-from .before .before .before in
+    writes-on (recordFrom (now (at-start .args .image))) (record-some (now (at-start .args .image)))
+    (at-from .from .result) (at-from .from .ensures) (at-to-bytes .to-bytes .result) _ _ _
+    (at-enum-told .enum-told .given .1) (at-to-bytes .to-bytes .ensures) (c .written .ensures)
+
+returns-2 : tie.Need-returns-2
+returns-2 c =
+    let at-outcome = c .before .before in
+    let at-from = at-outcome .before .before .before in
+    let at-start = at-from .before .before .before in
+    writes-not (recordFrom (now (at-start .args .image))) (record-some (now (at-start .args .image)))
+    (at-from .from .result) (at-from .from .ensures) (at-outcome .outcome .given .0 .0) _ _ (at-outcome .outcome .given .1)
+    (c .refused .ensures)
+
+-- ---- what the toolchain asks for, and finds
 from-requires : tie.Need-from-requires
 from-requires c κs = search needs
 
@@ -19,20 +39,14 @@ to-bytes-requires c κs = search needs
 written-requires : tie.Need-written-requires
 written-requires c κs = search needs
 
-enum-known-o : tie.Need-enum-known-o
-enum-known-o c = search needs
+enum-known-outcome : tie.Need-enum-known-outcome
+enum-known-outcome c = search needs
 
 refused-requires : tie.Need-refused-requires
 refused-requires c κs = search needs
 
 same-length : tie.Need-same-length
 same-length c = search needs
-
-returns : tie.Need-returns
-returns c = writes-on (recordFrom (now (c .before .before .before .before .before .before .before .before .before .before .before .args .image))) (record-some (now (c .before .before .before .before .before .before .before .before .before .before .before .args .image))) (c .before .before .before .before .before .before .before .before .from .result) (c .before .before .before .before .before .before .before .before .from .ensures) (c .before .before .before .to-bytes .result) _ _ _ (c .before .before .before .before .before .enum-told .given .1) (c .before .before .before .to-bytes .ensures) (c .written .ensures)
-
-returns-2 : tie.Need-returns-2
-returns-2 c = writes-not (recordFrom (now (c .before .before .before .before .before .before .before .before .args .image))) (record-some (now (c .before .before .before .before .before .before .before .before .args .image))) (c .before .before .before .before .before .from .result) (c .before .before .before .before .before .from .ensures) (c .before .before .o .given .0 .0) _ _ (c .before .before .o .given .1) (c .refused .ensures)
 
 pub crsf-write-spec : {M : Type 1} → statement M
 crsf-write-spec =
@@ -42,7 +56,7 @@ crsf-write-spec =
     enum-told
     to-bytes-requires
     written-requires
-    enum-known-o
+    enum-known-outcome
     refused-requires
     same-length
     returns

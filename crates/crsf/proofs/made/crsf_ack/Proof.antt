@@ -8,15 +8,53 @@ use Rattle.images.specs.Ack.{ackImage, imageOfAck}
 use Rattle.images.proofs.AckLaws.{ack-size, ack-image}
 use Rattle.crsf.proofs.Handed.{short, in-room, refuses, hands}
 use Rattle.crsf.proofs.Refusals.{ack-some}
+use contract.Lifetimes.{Lfts}
+use borrow.Fn.Kinds.{Dens, Plain}
 use borrow.Author.Needs.{needs}
 use Rattle.crsf.proofs.made.crsf_ack.Statement.{statement}
 use Rattle.crsf.proofs.made.crsf_ack.Tie as tie
+use Rattle.crsf.proofs.made.crsf_ack.Lts as lts
 
-refused-requires : tie.Need-refused-requires
-refused-requires c κs = search needs
+-- the array keeps its length
+long : {k : lts.Claims} {P : (κs : Lfts 2) → Dens κs lts.ps → Type 0}
+    {Q : (κs : Lfts 2) → Dens κs lts.ps → Plain 2 lts.ps lts.r κs} (made : lts.After-new k P Q)
+    → length (made .new .result .bytes) ≡ 55
+long made = search needs
 
 returns : tie.Need-returns
-returns c = short imageOfAck (now (c .before .before .before .before .args .ack)) (newAck (ackWith (c .before .before .before .before .args .command-id) (c .before .before .before .before .args .sub-command-id) (c .before .before .before .before .args .action)) (now (c .before .before .before .before .args .information))) 56 (c .refused .result) (c .before .if1 .taken) (c .refused .ensures)
+returns c = short imageOfAck 56 _ _ _ (c .before .if1 .taken) (c .refused .ensures)
+
+returns-2 : tie.Need-returns-2
+returns-2 c =
+    let at-put = c .before .before in
+    let at-enum-told = at-put .before .before in
+    let at-new = at-enum-told .before .before in
+    let at-if1 = at-new .before in
+    let at-start = at-if1 .before .before .before in
+    let k = ackWith (at-start .args .command-id) (at-start .args .sub-command-id) (at-start .args .action) in
+    let information = now (at-start .args .information) in
+    let a = newAck k information in
+    let made = at-new .new .result in
+    in-room imageOfAck 56 (now (at-start .args .ack)) a 0 _ (at-if1 .if1 .left)
+    (hands imageOfAck _ a (ack-some k information) _ (at-new .new .ensures .0) blankAck (ackImage (made .ack) (made .len) (made .bytes)) _
+    (at-enum-told .enum-told .given .1) (ack-image a made (at-new .new .ensures))
+    (omega (arith, ack-size (made .ack) (made .len) (made .bytes) (long at-new))) (at-put .put .ensures))
+
+returns-3 : tie.Need-returns-3
+returns-3 c =
+    let at-outcome = c .before .before in
+    let at-new = at-outcome .before .before in
+    let at-if1 = at-new .before in
+    let at-start = at-if1 .before .before .before in
+    let k = ackWith (at-start .args .command-id) (at-start .args .sub-command-id) (at-start .args .action) in
+    let information = now (at-start .args .information) in
+    let a = newAck k information in
+    in-room imageOfAck 56 (now (at-start .args .ack)) a _ _ (at-if1 .if1 .left)
+    (refuses imageOfAck _ a (ack-some k information) _ (at-new .new .ensures .0) _ _ (at-outcome .outcome .given .1) (c .refused2 .ensures))
+
+-- ---- what the toolchain asks for, and finds
+refused-requires : tie.Need-refused-requires
+refused-requires c κs = search needs
 
 new-requires : tie.Need-new-requires
 new-requires c κs = search needs
@@ -27,26 +65,14 @@ enum-told c = search needs
 put-requires : tie.Need-put-requires
 put-requires c κs = search needs
 
-enum-known-o : tie.Need-enum-known-o
-enum-known-o c = search needs
+enum-known-outcome : tie.Need-enum-known-outcome
+enum-known-outcome c = search needs
 
 refused-requires-2 : tie.Need-refused-requires-2
 refused-requires-2 c κs = search needs
 
 same-length : tie.Need-same-length
 same-length c = search needs
-
-returns-2 : tie.Need-returns-2
-returns-2 c = let k = ackWith (c .before .before .before .before .before .before .before .before .before .before .args .command-id) (c .before .before .before .before .before .before .before .before .before .before .args .sub-command-id) (c .before .before .before .before .before .before .before .before .before .before .args .action) in
-    let a = newAck k (now (c .before .before .before .before .before .before .before .before .before .before .args .information)) in
-    let r = c .before .before .before .before .before .before .new .result in
-    let l : length (c .before .before .before .before .before .before .new .result .bytes) ≡ 55 = search needs in
-    in-room imageOfAck (now (c .before .before .before .before .before .before .before .before .before .before .args .ack)) a 56 0 _ (c .before .before .before .before .before .before .before .if1 .left) (hands imageOfAck (now (c .before .before .before .before .before .before .before .before .before .before .args .ack)) a blankAck (ackImage (r .ack) (r .len) (r .bytes)) _ (ack-some k (now (c .before .before .before .before .before .before .before .before .before .before .args .information))) (rw (c .before .before .before .before .enum-told .given .1) at (c .before .before .before .before .before .before .new .ensures .0)) (ack-image a r (c .before .before .before .before .before .before .new .ensures)) (omega (arith, ack-size (r .ack) (r .len) (r .bytes) l)) (c .before .before .put .ensures))
-
-returns-3 : tie.Need-returns-3
-returns-3 c = let k = ackWith (c .before .before .before .before .before .before .before .before .args .command-id) (c .before .before .before .before .before .before .before .before .args .sub-command-id) (c .before .before .before .before .before .before .before .before .args .action) in
-    let a = newAck k (now (c .before .before .before .before .before .before .before .before .args .information)) in
-    in-room imageOfAck (now (c .before .before .before .before .before .before .before .before .args .ack)) a 56 (c .refused2 .result) _ (c .before .before .before .before .before .if1 .left) (refuses imageOfAck (now (c .before .before .before .before .before .before .before .before .args .ack)) a (c .before .before .o .given .0 .0) (c .refused2 .result) (ack-some k (now (c .before .before .before .before .before .before .before .before .args .information))) (rw (c .before .before .o .given .1) at (c .before .before .before .before .new .ensures .0)) (c .refused2 .ensures))
 
 pub crsf-ack-spec : {M : Type 1} → statement M
 crsf-ack-spec =
@@ -57,7 +83,7 @@ crsf-ack-spec =
     new-requires
     enum-told
     put-requires
-    enum-known-o
+    enum-known-outcome
     refused-requires-2
     same-length
     returns-2

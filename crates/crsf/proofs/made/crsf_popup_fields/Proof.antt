@@ -1,21 +1,40 @@
 -- A popup in, its fields out: too short a slice, no image, or what inspection answers. Assumes nothing.
 use mathlib.Core.List.{[]}
 use denote.Ref.{now}
-use Rattle.codec.specs.Sheet.{andThen}
 use Rattle.families.specs.Fields.{inspect, popupOf}
 use Rattle.images.specs.Popup.{popupFrom}
 use Rattle.images.specs.Fields.{fieldsImage}
-use Rattle.crsf.proofs.Handed.{short, in-room, stops, goes-on}
+use Rattle.crsf.proofs.Handed.{short, stops, goes-on}
 use Rattle.crsf.proofs.Refusals.{popup-some}
 use borrow.Author.Needs.{needs}
 use Rattle.crsf.proofs.made.crsf_popup_fields.Statement.{statement}
 use Rattle.crsf.proofs.made.crsf_popup_fields.Tie as tie
 
+returns : tie.Need-returns
+returns c = short fieldsImage 268 _ _ _ (c .before .if1 .taken) (c .refused .ensures)
+
+returns-2 : tie.Need-returns-2
+returns-2 c =
+    let at-take-apart = c .before .before in
+    let at-enum-told = at-take-apart .before .before .before in
+    let at-from = at-enum-told .before .before in
+    let at-start = at-from .before .before .before .before in
+    goes-on fieldsImage 268 (now (at-start .args .fields)) (popupFrom (now (at-start .args .popup))) inspect (at-from .before .if1 .left)
+    (popup-some (now (at-start .args .popup))) _ (at-from .from .ensures .0) (popupOf []) _ _ _
+    (at-enum-told .enum-told .given .1) (at-from .from .ensures .1)
+    (at-take-apart .take-apart .ensures)
+
+returns-3 : tie.Need-returns-3
+returns-3 c =
+    let at-outcome = c .before .before in
+    let at-from = at-outcome .before .before in
+    let at-start = at-from .before .before .before .before in
+    stops fieldsImage 268 (now (at-start .args .fields)) (popupFrom (now (at-start .args .popup))) inspect (at-from .before .if1 .left)
+    (popup-some (now (at-start .args .popup))) _ (at-from .from .ensures .0) _ _ (at-outcome .outcome .given .1) (c .refused2 .ensures)
+
+-- ---- what the toolchain asks for, and finds
 refused-requires : tie.Need-refused-requires
 refused-requires c κs = search needs
-
-returns : tie.Need-returns
-returns c = short fieldsImage (now (c .before .before .before .before .args .fields)) (andThen (popupFrom (now (c .before .before .before .before .args .popup))) inspect) 268 (c .refused .result) (c .before .if1 .taken) (c .refused .ensures)
 
 from-requires : tie.Need-from-requires
 from-requires c κs = search needs
@@ -26,22 +45,14 @@ enum-told c = search needs
 take-apart-requires : tie.Need-take-apart-requires
 take-apart-requires c κs = search needs
 
-enum-known-o : tie.Need-enum-known-o
-enum-known-o c = search needs
+enum-known-outcome : tie.Need-enum-known-outcome
+enum-known-outcome c = search needs
 
 refused-requires-2 : tie.Need-refused-requires-2
 refused-requires-2 c κs = search needs
 
 same-length : tie.Need-same-length
 same-length c = search needs
-
-returns-2 : tie.Need-returns-2
-returns-2 c = let s = now (c .before .before .before .before .before .before .before .before .before .before .before .args .popup) in
-    in-room fieldsImage (now (c .before .before .before .before .before .before .before .before .before .before .before .args .fields)) (andThen (popupFrom s) inspect) 268 (c .before .before .take-apart .result) _ (c .before .before .before .before .before .before .before .before .if1 .left) (goes-on fieldsImage (now (c .before .before .before .before .before .before .before .before .before .before .before .args .fields)) (popupFrom s) inspect (popup-some s) (popupOf []) (c .before .before .before .before .before .before .before .from .result .popup) (c .before .before .take-apart .result) _ (rw (c .before .before .before .before .before .enum-told .given .1) at (c .before .before .before .before .before .before .before .from .ensures .0)) (c .before .before .before .before .before .before .before .from .ensures .1) (c .before .before .take-apart .ensures))
-
-returns-3 : tie.Need-returns-3
-returns-3 c = let s = now (c .before .before .before .before .before .before .before .before .args .popup) in
-    in-room fieldsImage (now (c .before .before .before .before .before .before .before .before .args .fields)) (andThen (popupFrom s) inspect) 268 (c .refused2 .result) _ (c .before .before .before .before .before .if1 .left) (stops fieldsImage (now (c .before .before .before .before .before .before .before .before .args .fields)) (popupFrom s) inspect (popup-some s) (c .before .before .o .given .0 .0) (c .refused2 .result) (rw (c .before .before .o .given .1) at (c .before .before .before .before .from .ensures .0)) (c .refused2 .ensures))
 
 pub crsf-popup-fields-spec : {M : Type 1} → statement M
 crsf-popup-fields-spec =
@@ -52,7 +63,7 @@ crsf-popup-fields-spec =
     from-requires
     enum-told
     take-apart-requires
-    enum-known-o
+    enum-known-outcome
     refused-requires-2
     same-length
     returns-2

@@ -17,10 +17,31 @@ use Rattle.crsf.proofs.made.make.Tie as tie
 use Rattle.crsf.proofs.made.make.Lts as lts
 
 -- the array keeps its length
-long : {k : lts.Claims} {P : (κs : Lfts 1) → Dens κs lts.ps → Type 0} {Q : (κs : Lfts 1) → Dens κs lts.ps → Plain 1 lts.ps lts.r κs} (made : lts.After-new k P Q)
+long : {k : lts.Claims} {P : (κs : Lfts 1) → Dens κs lts.ps → Type 0}
+    {Q : (κs : Lfts 1) → Dens κs lts.ps → Plain 1 lts.ps lts.r κs} (made : lts.After-new k P Q)
     → length (made .new .result .popup .bytes) ≡ 55
 long made = search needs
 
+returns : tie.Need-returns
+returns c =
+    let at-put = c .before .before in
+    let at-enum-told = at-put .before .before .before .before .before in
+    let at-new = at-enum-told .before .before in
+    let at-start = at-new .before .before in
+    let made = at-new .new .result .popup in
+    hands popupImage (now (at-start .args .popup)) (construct (at-start .args .fields)) (construct-some (at-start .args .fields)) _
+    (at-new .new .ensures .0) (popupOf []) (popupImage made) _ (at-enum-told .enum-told .given .1)
+    (ap popupImage (at-new .new .ensures .1)) (omega (arith, popup-size made (long at-new), at-start .pre)) (at-put .put .ensures)
+
+returns-2 : tie.Need-returns-2
+returns-2 c =
+    let at-outcome = c .before .before in
+    let at-new = at-outcome .before .before in
+    let at-start = at-new .before .before in
+    refuses popupImage _ (construct (at-start .args .fields)) (construct-some (at-start .args .fields)) _ (at-new .new .ensures .0) _ _
+    (at-outcome .outcome .given .1) (c .refused .ensures)
+
+-- ---- what the toolchain asks for, and finds
 new-requires : tie.Need-new-requires
 new-requires c κs = search needs
 
@@ -33,25 +54,14 @@ slice-aggregate-put c = search needs
 put-requires : tie.Need-put-requires
 put-requires c κs = search needs
 
-enum-known-o : tie.Need-enum-known-o
-enum-known-o c = search needs
+enum-known-outcome : tie.Need-enum-known-outcome
+enum-known-outcome c = search needs
 
 refused-requires : tie.Need-refused-requires
 refused-requires c κs = search needs
 
 same-length : tie.Need-same-length
 same-length c = search needs
-
-returns : tie.Need-returns
-returns c =
-    let at-told = c .before .before .before .before .before .before .before in
-    let made = at-told .before .before in
-    let start = made .before .before in
-    let l = long made in
-    hands popupImage (now (start .args .out)) (construct (start .args .f)) (popupOf []) (popupImage (made .new .result .popup)) _ (construct-some (start .args .f)) (rw (at-told .enum-told .given .1) at (made .new .ensures .0)) (ap popupImage (made .new .ensures .1)) (omega (arith, popup-size (made .new .result .popup) l, start .pre)) (c .before .before .put .ensures)
-
-returns-2 : tie.Need-returns-2
-returns-2 c = refuses popupImage (now (c .before .before .before .before .before .before .args .out)) (construct (c .before .before .before .before .before .before .args .f)) (c .before .before .o .given .0 .0) (c .refused .result) (construct-some (c .before .before .before .before .before .before .args .f)) (rw (c .before .before .o .given .1) at (c .before .before .before .before .new .ensures .0)) (c .refused .ensures)
 
 pub make-spec : {M : Type 1} → statement M
 make-spec =
@@ -61,7 +71,7 @@ make-spec =
     enum-told
     slice-aggregate-put
     put-requires
-    enum-known-o
+    enum-known-outcome
     refused-requires
     same-length
     returns

@@ -11,31 +11,43 @@ use Rattle.edits.proofs.applying.answer_all.Statement.{statement}
 use Rattle.edits.proofs.applying.answer_all.Tie as tie
 
 abbrev Inv-loop : tie.InvT-loop
-Inv-loop answers₀ count number k₀ answers k = (k ≤ count) × ((length answers ≡ length answers₀) × (sets answers₀ 0 (replicate count number) ≡ sets answers k (replicate (count - k) number)))
+Inv-loop answers₀ count number answered₀ answers answered =
+    (answered ≤ count) × ((length answers ≡ length answers₀) × (sets answers₀ 0 (replicate count number) ≡ sets answers answered
+    (replicate (count - answered) number)))
 
 abbrev μ-loop : tie.MeasureT-loop
-μ-loop answers₀ count number k₀ answers k = count - k
+μ-loop answers₀ count number answered₀ answers answered = count - answered
 
 loop-holds : tie.Need-loop-holds Inv-loop μ-loop
 loop-holds c = (omega arith, (refl, all-start (now (c .args .answers)) (c .args .count) (c .args .number)))
 
-slice-write-answers : tie.Need-slice-write-answers Inv-loop μ-loop
-slice-write-answers c = search needs
-
-add-k : tie.Need-add-k Inv-loop μ-loop
-add-k c = search needs
-
-loop-less : tie.Need-loop-less Inv-loop μ-loop
-loop-less c = search needs
-
 loop-again : tie.Need-loop-again Inv-loop μ-loop
-loop-again c = (search needs, (rw length-set (c .before .loop .inv .1 .0), all-turn _ (c .before .loop .answers) (c .before .loop .k) (c .before .before .args .count) (c .before .before .args .number) (c .loop-test .taken) (c .before .loop .inv .1 .1)))
+loop-again c = (
+  search needs,
+  (
+    rw length-set (c .before .loop .inv .1 .0),
+    all-turn _ (c .before .loop .answers) (c .before .loop .answered)
+        (c .before .before .args .count) (c .before .before .args .number) (c .loop-test .taken)
+        (c .before .loop .inv .1 .1),
+  ),
+)
 
 same-length : tie.Need-same-length Inv-loop μ-loop
 same-length c = c .before .loop .inv .1 .0
 
 returns : tie.Need-returns Inv-loop μ-loop
-returns c = all-end _ (c .before .loop .answers) (c .before .loop .k) (c .before .before .args .count) (c .before .before .args .number) (c .loop-test .left) (c .before .loop .inv .1 .1)
+returns c = all-end _ (c .before .loop .answers) (c .before .loop .answered) (c .before .before .args .count)
+    (c .before .before .args .number) (c .loop-test .left) (c .before .loop .inv .1 .1)
+
+-- ---- what the toolchain asks for, and finds
+slice-write-answers : tie.Need-slice-write-answers Inv-loop μ-loop
+slice-write-answers c = search needs
+
+add-answered : tie.Need-add-answered Inv-loop μ-loop
+add-answered c = search needs
+
+loop-less : tie.Need-loop-less Inv-loop μ-loop
+loop-less c = search needs
 
 pub answer-all-spec : {M : Type 1} → statement M
 answer-all-spec =
@@ -45,7 +57,7 @@ answer-all-spec =
     μ-loop
     loop-holds
     slice-write-answers
-    add-k
+    add-answered
     loop-less
     loop-again
     same-length

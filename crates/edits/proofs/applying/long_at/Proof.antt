@@ -6,20 +6,34 @@ use Rattle.edits.proofs.Places.{long-got, long-not}
 use Rattle.edits.proofs.applying.long_at.Statement.{statement}
 use Rattle.edits.proofs.applying.long_at.Tie as tie
 
+returns : tie.Need-returns
+returns c =
+    let at-number = c .before in
+    let at-read-number = at-number .before .before in
+    let at-shared-slice-known = at-read-number .before in
+    let at-start = at-shared-slice-known .before in
+    long-got (now (at-start .args .bytes)) (at-start .args .at) _ (at-read-number .read-number .result)
+    (bytes-of (now (at-start .args .bytes)) (at-shared-slice-known .shared-slice-known .given)) (at-start .pre)
+    (at-number .number .given .1) (at-read-number .read-number .ensures .0)
+
+returns-2 : tie.Need-returns-2
+returns-2 c =
+    let at-read-number = c .before .before in
+    let at-shared-slice-known = at-read-number .before in
+    let at-start = at-shared-slice-known .before in
+    long-not (now (at-start .args .bytes)) (at-start .args .at) (at-read-number .read-number .result) _
+    (bytes-of (now (at-start .args .bytes)) (at-shared-slice-known .shared-slice-known .given)) (at-start .pre)
+    (c .enum-told .given .1) (at-read-number .read-number .ensures .0)
+
+-- ---- what the toolchain asks for, and finds
 read-number-requires : tie.Need-read-number-requires
 read-number-requires c κs = search needs
 
-enum-known-n : tie.Need-enum-known-n
-enum-known-n c = search needs
+enum-known-number : tie.Need-enum-known-number
+enum-known-number c = search needs
 
 enum-told : tie.Need-enum-told
 enum-told c = search needs
 
-returns : tie.Need-returns
-returns c = long-got (now (c .before .before .before .before .before .args .s)) (c .before .before .before .before .before .args .at) _ (c .before .before .before .read-number .result) (bytes-of (now (c .before .before .before .before .before .args .s)) (c .before .before .before .before .shared-slice-known .given)) (c .before .before .before .before .before .pre) (c .before .n .given .1) (c .before .before .before .read-number .ensures .0)
-
-returns-2 : tie.Need-returns-2
-returns-2 c = long-not (now (c .before .before .before .before .args .s)) (c .before .before .before .before .args .at) (c .before .before .read-number .result) _ (bytes-of (now (c .before .before .before .before .args .s)) (c .before .before .before .shared-slice-known .given)) (c .before .before .before .before .pre) (c .enum-told .given .1) (c .before .before .read-number .ensures .0)
-
 pub long-at-spec : {M : Type 1} → statement M
-long-at-spec = tie.close (tie.spec read-number-requires enum-known-n enum-told returns returns-2)
+long-at-spec = tie.close (tie.spec read-number-requires enum-known-number enum-told returns returns-2)

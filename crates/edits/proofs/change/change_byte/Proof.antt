@@ -7,12 +7,6 @@ use Rattle.edits.proofs.Patched.{byte-number, check-byte}
 use Rattle.edits.proofs.change.change_byte.Statement.{statement}
 use Rattle.edits.proofs.change.change_byte.Tie as tie
 
-sub-last : tie.Need-sub-last
-sub-last c = search needs
-
-slice-read-x : tie.Need-slice-read-x
-slice-read-x c = search needs
-
 cast-replace : tie.Need-cast-replace
 cast-replace c =
     let o = c .before .before in
@@ -21,19 +15,45 @@ cast-replace c =
 
 replace-requires : tie.Need-replace-requires
 replace-requires c κs =
-    let o = c .before .before in
-    (o .pre .1 .0, (o .pre .1 .1 .0, rw (byte-number (now (o .args .s)) (o .args .at) (omega (arith, o .pre .0))) at (o .pre .1 .1 .1)))
+    let o = c .before .before in (
+      o .pre .counts,
+      (
+        o .pre .values,
+        rw (byte-number (now (o .args .payload)) (o .args .at) (omega (arith, o .pre .there))) at (o .pre .fits),
+      ),
+    )
 
-cast-y : tie.Need-cast-y
-cast-y c = search needs
-
-slice-write-s : tie.Need-slice-write-s
-slice-write-s c = search needs
-
-slice-read-s : tie.Need-slice-read-s
-slice-read-s c =
+slice-read-payload : tie.Need-slice-read-payload
+slice-read-payload c =
     let o = c .before .before .before .before in
-    lt-length-set (now (o .args .s)) (o .args .at) _ (omega (arith, o .pre .0))
+    lt-length-set (now (o .args .payload)) (o .args .at) _ (omega (arith, o .pre .there))
+
+slice-write-payload-2 : tie.Need-slice-write-payload-2
+slice-write-payload-2 c =
+    let at-start = c .before .before .before .before .before in
+    lt-length-set (now (at-start .args .payload)) (at-start .args .at) _ (omega (arith, at-start .pre .there))
+
+returns : tie.Need-returns
+returns c =
+    let at-replace = c .before .before in
+    let at-slice-known = at-replace .before .before in
+    let at-start = at-slice-known .before in
+    check-byte (now (at-start .args .payload)) (at-start .args .at) (at-start .args .unit) (at-start .args .many)
+    (at-start .args .number) _ _ (at-slice-known .slice-known .given (at-start .args .at) .fits) (at-start .pre .there)
+    (at-replace .replace .ensures) (c .check-with-zeros .ensures)
+
+-- ---- what the toolchain asks for, and finds
+sub-last : tie.Need-sub-last
+sub-last c = search needs
+
+slice-read-old : tie.Need-slice-read-old
+slice-read-old c = search needs
+
+cast-new : tie.Need-cast-new
+cast-new c = search needs
+
+slice-write-payload : tie.Need-slice-write-payload
+slice-write-payload c = search needs
 
 sub-check-with-zeros : tie.Need-sub-check-with-zeros
 sub-check-with-zeros c = search needs
@@ -41,32 +61,22 @@ sub-check-with-zeros c = search needs
 check-with-zeros-requires : tie.Need-check-with-zeros-requires
 check-with-zeros-requires c κs = search needs
 
-slice-write-s-2 : tie.Need-slice-write-s-2
-slice-write-s-2 c =
-    let o = c .before .before .before .before .before in
-    lt-length-set (now (o .args .s)) (o .args .at) _ (omega (arith, o .pre .0))
-
 same-length : tie.Need-same-length
 same-length c = search needs
-
-returns : tie.Need-returns
-returns c =
-    let o = c .before .before .before .before .before in
-    check-byte (now (o .args .s)) (o .args .at) (o .args .unit) (o .args .many) (o .args .n) _ _ (c .before .before .before .before .slice-known .given (o .args .at) .fits) (o .pre .0) (c .before .before .replace .ensures) (c .check-with-zeros .ensures)
 
 pub change-byte-spec : {M : Type 1} → statement M
 change-byte-spec =
     tie.close
     (tie.spec
     sub-last
-    slice-read-x
+    slice-read-old
     cast-replace
     replace-requires
-    cast-y
-    slice-write-s
-    slice-read-s
+    cast-new
+    slice-write-payload
+    slice-read-payload
     sub-check-with-zeros
     check-with-zeros-requires
-    slice-write-s-2
+    slice-write-payload-2
     same-length
     returns)

@@ -5,6 +5,17 @@ use Rattle.edits.proofs.Patched.{check-put}
 use Rattle.edits.proofs.change.change_bytes.Statement.{statement}
 use Rattle.edits.proofs.change.change_bytes.Tie as tie
 
+returns : tie.Need-returns
+returns c =
+    let at-check2 = c .before .before in
+    let at-put-field = at-check2 .before .before .before .before .before in
+    let at-check = at-put-field .before .before in
+    let at-start = at-check .before .before .before .before in
+    check-put (now (at-start .args .payload)) _ (at-start .args .at) (at-start .args .width) _ _ _ _ _ _ (at-start .pre .there)
+    (at-put-field .put-field .ensures) (at-check .check .ensures) (at-check2 .check2 .ensures)
+    (c .check-with-zeros .ensures)
+
+-- ---- what the toolchain asks for, and finds
 add-end : tie.Need-add-end
 add-end c = search needs
 
@@ -38,8 +49,8 @@ part-check-end-2 c = search needs
 check-requires-2 : tie.Need-check-requires-2
 check-requires-2 c κs = search needs
 
-slice-read-s : tie.Need-slice-read-s
-slice-read-s c = search needs
+slice-read-payload : tie.Need-slice-read-payload
+slice-read-payload c = search needs
 
 sub-check-with-zeros : tie.Need-sub-check-with-zeros
 sub-check-with-zeros c = search needs
@@ -47,16 +58,11 @@ sub-check-with-zeros c = search needs
 check-with-zeros-requires : tie.Need-check-with-zeros-requires
 check-with-zeros-requires c κs = search needs
 
-slice-write-s : tie.Need-slice-write-s
-slice-write-s c = search needs
+slice-write-payload : tie.Need-slice-write-payload
+slice-write-payload c = search needs
 
 same-length : tie.Need-same-length
 same-length c = search needs
-
-returns : tie.Need-returns
-returns c =
-    let o = c .before .before .before .before .before .before .before .before .before .before .before .before .before in
-    check-put (now (o .args .s)) _ (o .args .at) (o .args .w) _ _ _ _ _ _ (o .pre .1 .1 .0) (c .before .before .before .before .before .before .before .put-field .ensures) (c .before .before .before .before .before .before .before .before .before .check .ensures) (c .before .before .check2 .ensures) (c .check-with-zeros .ensures)
 
 pub change-bytes-spec : {M : Type 1} → statement M
 change-bytes-spec =
@@ -73,9 +79,9 @@ change-bytes-spec =
     part-check-start-2
     part-check-end-2
     check-requires-2
-    slice-read-s
+    slice-read-payload
     sub-check-with-zeros
     check-with-zeros-requires
-    slice-write-s
+    slice-write-payload
     same-length
     returns)

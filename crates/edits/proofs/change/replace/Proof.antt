@@ -5,17 +5,18 @@ use Rattle.edits.proofs.Patched.{field-part}
 use Rattle.edits.proofs.change.replace.Statement.{statement}
 use Rattle.edits.proofs.change.replace.Tie as tie
 
+mul-result : tie.Need-mul-result
+mul-result c = record { fits = omega (arith, field-part (c .args .whole) (c .args .unit) (c .args .many)) }
+
+sub-result : tie.Need-sub-result
+sub-result c = field-part (c .args .whole) (c .args .unit) (c .args .many)
+
+-- ---- what the toolchain asks for, and finds
 div-result : tie.Need-div-result
 div-result c = search needs
 
 rem-result : tie.Need-rem-result
 rem-result c = search needs
-
-mul-result : tie.Need-mul-result
-mul-result c = record { fits = omega (arith, field-part (c .args .x) (c .args .unit) (c .args .many)) }
-
-sub-result : tie.Need-sub-result
-sub-result c = field-part (c .args .x) (c .args .unit) (c .args .many)
 
 mul-result-2 : tie.Need-mul-result-2
 mul-result-2 c = search needs

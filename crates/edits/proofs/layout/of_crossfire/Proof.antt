@@ -3,6 +3,13 @@ use borrow.Author.Needs.{needs}
 use Rattle.edits.proofs.layout.of_crossfire.Statement.{statement}
 use Rattle.edits.proofs.layout.of_crossfire.Tie as tie
 
+returns-4 : tie.Need-returns-4
+returns-4 c = rw (c .before .enum-told4 .given .1) (c .plain .ensures)
+
+returns-6 : tie.Need-returns-6
+returns-6 c = rw (c .before .enum-told6 .given .1) (c .plain2 .ensures)
+
+-- ---- what the toolchain asks for, and finds
 enum-told : tie.Need-enum-told
 enum-told c = search needs
 
@@ -72,14 +79,8 @@ returns-2 c = search needs
 returns-3 : tie.Need-returns-3
 returns-3 c = search needs
 
-returns-4 : tie.Need-returns-4
-returns-4 c = rw (c .before .enum-told4 .given .1) (c .plain .ensures)
-
 returns-5 : tie.Need-returns-5
 returns-5 c = search needs
-
-returns-6 : tie.Need-returns-6
-returns-6 c = rw (c .before .enum-told6 .given .1) (c .plain2 .ensures)
 
 returns-7 : tie.Need-returns-7
 returns-7 c = search needs

@@ -3,25 +3,26 @@ use borrow.Author.Needs.{needs}
 use Rattle.edits.proofs.layout.of_flow.Statement.{statement}
 use Rattle.edits.proofs.layout.of_flow.Tie as tie
 
-enum-known-c : tie.Need-enum-known-c
-enum-known-c c = search needs
+returns : tie.Need-returns
+returns c = rw (c .before .before .command .given .1) (c .plain .ensures)
+
+returns-2 : tie.Need-returns-2
+returns-2 c = rw (c .before .before .command2 .given .1) (c .plain2 .ensures)
+
+-- ---- what the toolchain asks for, and finds
+enum-known-command : tie.Need-enum-known-command
+enum-known-command c = search needs
 
 plain-requires : tie.Need-plain-requires
 plain-requires c κs = search needs
 
-enum-known-c-2 : tie.Need-enum-known-c-2
-enum-known-c-2 c = search needs
+enum-known-command-2 : tie.Need-enum-known-command-2
+enum-known-command-2 c = search needs
 
 plain-requires-2 : tie.Need-plain-requires-2
 plain-requires-2 c κs = search needs
 
-returns : tie.Need-returns
-returns c = rw (c .before .before .c .given .1) (c .plain .ensures)
-
-returns-2 : tie.Need-returns-2
-returns-2 c = rw (c .before .before .c2 .given .1) (c .plain2 .ensures)
-
 pub of-flow-spec : {M : Type 1} → statement M
 of-flow-spec =
     tie.close
-    (tie.spec enum-known-c plain-requires enum-known-c-2 plain-requires-2 returns returns-2)
+    (tie.spec enum-known-command plain-requires enum-known-command-2 plain-requires-2 returns returns-2)

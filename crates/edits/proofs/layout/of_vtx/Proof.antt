@@ -3,14 +3,27 @@ use borrow.Author.Needs.{needs}
 use Rattle.edits.proofs.layout.of_vtx.Statement.{statement}
 use Rattle.edits.proofs.layout.of_vtx.Tie as tie
 
+returns : tie.Need-returns
+returns c = rw (c .before .enum-told .given .1) (c .plain .ensures)
+
+returns-2 : tie.Need-returns-2
+returns-2 c = rw (c .before .before .command .given .1) (c .plain2 .ensures)
+
+returns-4 : tie.Need-returns-4
+returns-4 c = rw (c .before .enum-told3 .given .1) (c .plain3 .ensures)
+
+returns-5 : tie.Need-returns-5
+returns-5 c = rw (c .before .enum-told4 .given .1) (c .plain4 .ensures)
+
+-- ---- what the toolchain asks for, and finds
 enum-told : tie.Need-enum-told
 enum-told c = search needs
 
 plain-requires : tie.Need-plain-requires
 plain-requires c κs = search needs
 
-enum-known-c : tie.Need-enum-known-c
-enum-known-c c = search needs
+enum-known-command : tie.Need-enum-known-command
+enum-known-command c = search needs
 
 plain-requires-2 : tie.Need-plain-requires-2
 plain-requires-2 c κs = search needs
@@ -33,20 +46,8 @@ enum-told-4 c = search needs
 plain-requires-4 : tie.Need-plain-requires-4
 plain-requires-4 c κs = search needs
 
-returns : tie.Need-returns
-returns c = rw (c .before .enum-told .given .1) (c .plain .ensures)
-
-returns-2 : tie.Need-returns-2
-returns-2 c = rw (c .before .before .c .given .1) (c .plain2 .ensures)
-
 returns-3 : tie.Need-returns-3
 returns-3 c = search needs
-
-returns-4 : tie.Need-returns-4
-returns-4 c = rw (c .before .enum-told3 .given .1) (c .plain3 .ensures)
-
-returns-5 : tie.Need-returns-5
-returns-5 c = rw (c .before .enum-told4 .given .1) (c .plain4 .ensures)
 
 pub of-vtx-spec : {M : Type 1} → statement M
 of-vtx-spec =
@@ -54,7 +55,7 @@ of-vtx-spec =
     (tie.spec
     enum-told
     plain-requires
-    enum-known-c
+    enum-known-command
     plain-requires-2
     enum-told-2
     alone-requires

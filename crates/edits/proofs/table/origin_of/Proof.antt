@@ -1,7 +1,6 @@
 -- `table::origin_of` meets its contract: a case each. Assumes nothing.
 use Prim.Native.Nat.{ℕ}
 use mathlib.Core.Path.{_≡_}
-use lib.Dec.{eqb}
 use borrow.Author.Tests.{ne-eqb}
 use Rattle.edits.specs.Table.{originFrom}
 use Rattle.edits.proofs.table.origin_of.Statement.{statement}

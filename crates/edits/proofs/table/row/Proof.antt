@@ -1,7 +1,7 @@
 -- `table::row` meets its contract: each arm by its index, the last by none of them. Assumes nothing.
 use Prim.Native.Nat.{ℕ}
-use mathlib.Core.Path.{_≡_, ap, sym, _∙_}
-use Rattle.edits.specs.Table.{rowWith, rowFor, rowAt, indexFor}
+use mathlib.Core.Path.{_≡_, refl, ap, sym, _∙_}
+use Rattle.edits.specs.Table.{noFieldRow, rowFor, rowAt, indexFor}
 use Rattle.edits.specs.declared.table.FieldRow.{FieldRow}
 use Rattle.edits.proofs.Indexed.{NoneFrom, row-at, at-none}
 use borrow.Author.Needs.{needs}
@@ -13,9 +13,207 @@ keyed : (near far f : ℕ) {i k : ℕ} {r : FieldRow} → r ≡ rowAt k near far
 keyed near far f g e h = g ∙ ap (λ (x : ℕ). rowAt x near far) (sym h) ∙ row-at near far f e
 
 -- no row, where it has found none
-none : (near far f i : ℕ) {r : FieldRow} → r ≡ rowWith 32 1 0 0 0 1 1 → i ≡ indexFor f → NoneFrom i 0 32 (Unit {0}) → r ≡ rowFor f near far
+none : (near far f i : ℕ) {r : FieldRow} → r ≡ noFieldRow → i ≡ indexFor f → NoneFrom i 0 32 (Unit {0}) → r ≡ rowFor f near far
 none near far f i g e h = g ∙ sym (at-none i near far h) ∙ row-at near far f e
 
+returns : tie.Need-returns
+returns c =
+    let at-match = c .before .before in let found = at-match .before in let start = found .before in
+    keyed (start .args .near) (start .args .far) (start .args .field) (c .placed .ensures) (found .index-of .ensures)
+    (at-match .match .keys1)
+
+returns-2 : tie.Need-returns-2
+returns-2 c =
+    let at-match = c .before .before in let found = at-match .before in let start = found .before in
+    keyed (start .args .near) (start .args .far) (start .args .field) (c .placed2 .ensures) (found .index-of .ensures)
+    (at-match .match .keys2)
+
+returns-3 : tie.Need-returns-3
+returns-3 c =
+    let at-match = c .before .before in let found = at-match .before in let start = found .before in
+    keyed (start .args .near) (start .args .far) (start .args .field) (c .placed3 .ensures) (found .index-of .ensures)
+    (at-match .match .keys3)
+
+returns-4 : tie.Need-returns-4
+returns-4 c =
+    let at-match = c .before .before in let found = at-match .before in let start = found .before in
+    keyed (start .args .near) (start .args .far) (start .args .field) (c .placed4 .ensures) (found .index-of .ensures)
+    (at-match .match .keys4)
+
+returns-5 : tie.Need-returns-5
+returns-5 c =
+    let at-match = c .before .before in let found = at-match .before in let start = found .before in
+    keyed (start .args .near) (start .args .far) (start .args .field) (c .placed5 .ensures) (found .index-of .ensures)
+    (at-match .match .keys5)
+
+returns-6 : tie.Need-returns-6
+returns-6 c =
+    let at-match = c .before .before in let found = at-match .before in let start = found .before in
+    keyed (start .args .near) (start .args .far) (start .args .field) (c .placed6 .ensures) (found .index-of .ensures)
+    (at-match .match .keys6)
+
+returns-7 : tie.Need-returns-7
+returns-7 c =
+    let at-match = c .before .before in let found = at-match .before in let start = found .before in
+    keyed (start .args .near) (start .args .far) (start .args .field) (c .placed7 .ensures) (found .index-of .ensures)
+    (at-match .match .keys7)
+
+returns-8 : tie.Need-returns-8
+returns-8 c =
+    let at-match = c .before .before in let found = at-match .before in let start = found .before in
+    keyed (start .args .near) (start .args .far) (start .args .field) (c .placed8 .ensures) (found .index-of .ensures)
+    (at-match .match .keys8)
+
+returns-9 : tie.Need-returns-9
+returns-9 c =
+    let at-match = c .before .before in let found = at-match .before in let start = found .before in
+    keyed (start .args .near) (start .args .far) (start .args .field) (c .placed9 .ensures) (found .index-of .ensures)
+    (at-match .match .keys9)
+
+returns-10 : tie.Need-returns-10
+returns-10 c =
+    let at-match = c .before .before in let found = at-match .before in let start = found .before in
+    keyed (start .args .near) (start .args .far) (start .args .field) (c .placed10 .ensures) (found .index-of .ensures)
+    (at-match .match .keys10)
+
+returns-11 : tie.Need-returns-11
+returns-11 c =
+    let at-match = c .before .before in let found = at-match .before in let start = found .before in
+    keyed (start .args .near) (start .args .far) (start .args .field) (c .placed11 .ensures) (found .index-of .ensures)
+    (at-match .match .keys11)
+
+returns-12 : tie.Need-returns-12
+returns-12 c =
+    let at-match = c .before .before in let found = at-match .before in let start = found .before in
+    keyed (start .args .near) (start .args .far) (start .args .field) (c .placed12 .ensures) (found .index-of .ensures)
+    (at-match .match .keys12)
+
+returns-13 : tie.Need-returns-13
+returns-13 c =
+    let at-match = c .before .before in let found = at-match .before in let start = found .before in
+    keyed (start .args .near) (start .args .far) (start .args .field) (c .placed13 .ensures) (found .index-of .ensures)
+    (at-match .match .keys13)
+
+returns-14 : tie.Need-returns-14
+returns-14 c =
+    let at-match = c .before .before in let found = at-match .before in let start = found .before in
+    keyed (start .args .near) (start .args .far) (start .args .field) (c .placed14 .ensures) (found .index-of .ensures)
+    (at-match .match .keys14)
+
+returns-15 : tie.Need-returns-15
+returns-15 c =
+    let at-match = c .before .before in let found = at-match .before in let start = found .before in
+    keyed (start .args .near) (start .args .far) (start .args .field) (c .placed15 .ensures) (found .index-of .ensures)
+    (at-match .match .keys15)
+
+returns-16 : tie.Need-returns-16
+returns-16 c =
+    let at-match = c .before .before in let found = at-match .before in let start = found .before in
+    keyed (start .args .near) (start .args .far) (start .args .field) (c .placed16 .ensures) (found .index-of .ensures)
+    (at-match .match .keys16)
+
+returns-17 : tie.Need-returns-17
+returns-17 c =
+    let at-match = c .before .before in let found = at-match .before in let start = found .before in
+    keyed (start .args .near) (start .args .far) (start .args .field) (c .placed17 .ensures) (found .index-of .ensures)
+    (at-match .match .keys17)
+
+returns-18 : tie.Need-returns-18
+returns-18 c =
+    let at-match = c .before .before in let found = at-match .before in let start = found .before in
+    keyed (start .args .near) (start .args .far) (start .args .field) (c .placed18 .ensures) (found .index-of .ensures)
+    (at-match .match .keys18)
+
+returns-19 : tie.Need-returns-19
+returns-19 c =
+    let at-match = c .before .before in let found = at-match .before in let start = found .before in
+    keyed (start .args .near) (start .args .far) (start .args .field) (c .placed19 .ensures) (found .index-of .ensures)
+    (at-match .match .keys19)
+
+returns-20 : tie.Need-returns-20
+returns-20 c =
+    let at-match = c .before .before in let found = at-match .before in let start = found .before in
+    keyed (start .args .near) (start .args .far) (start .args .field) (c .placed20 .ensures) (found .index-of .ensures)
+    (at-match .match .keys20)
+
+returns-21 : tie.Need-returns-21
+returns-21 c =
+    let at-match = c .before .before in let found = at-match .before in let start = found .before in
+    keyed (start .args .near) (start .args .far) (start .args .field) (c .placed21 .ensures) (found .index-of .ensures)
+    (at-match .match .keys21)
+
+returns-22 : tie.Need-returns-22
+returns-22 c =
+    let at-match = c .before .before in let found = at-match .before in let start = found .before in
+    keyed (start .args .near) (start .args .far) (start .args .field) (c .placed22 .ensures) (found .index-of .ensures)
+    (at-match .match .keys22)
+
+returns-23 : tie.Need-returns-23
+returns-23 c =
+    let at-match = c .before .before in let found = at-match .before in let start = found .before in
+    keyed (start .args .near) (start .args .far) (start .args .field) (c .placed23 .ensures) (found .index-of .ensures)
+    (at-match .match .keys23)
+
+returns-24 : tie.Need-returns-24
+returns-24 c =
+    let at-match = c .before .before in let found = at-match .before in let start = found .before in
+    keyed (start .args .near) (start .args .far) (start .args .field) (c .placed24 .ensures) (found .index-of .ensures)
+    (at-match .match .keys24)
+
+returns-25 : tie.Need-returns-25
+returns-25 c =
+    let at-match = c .before .before in let found = at-match .before in let start = found .before in
+    keyed (start .args .near) (start .args .far) (start .args .field) (c .placed25 .ensures) (found .index-of .ensures)
+    (at-match .match .keys25)
+
+returns-26 : tie.Need-returns-26
+returns-26 c =
+    let at-match = c .before .before in let found = at-match .before in let start = found .before in
+    keyed (start .args .near) (start .args .far) (start .args .field) (c .placed26 .ensures) (found .index-of .ensures)
+    (at-match .match .keys26)
+
+returns-27 : tie.Need-returns-27
+returns-27 c =
+    let at-match = c .before .before in let found = at-match .before in let start = found .before in
+    keyed (start .args .near) (start .args .far) (start .args .field) (c .placed27 .ensures) (found .index-of .ensures)
+    (at-match .match .keys27)
+
+returns-28 : tie.Need-returns-28
+returns-28 c =
+    let at-match = c .before .before in let found = at-match .before in let start = found .before in
+    keyed (start .args .near) (start .args .far) (start .args .field) (c .placed28 .ensures) (found .index-of .ensures)
+    (at-match .match .keys28)
+
+returns-29 : tie.Need-returns-29
+returns-29 c =
+    let at-match = c .before .before in let found = at-match .before in let start = found .before in
+    keyed (start .args .near) (start .args .far) (start .args .field) (c .placed29 .ensures) (found .index-of .ensures)
+    (at-match .match .keys29)
+
+returns-30 : tie.Need-returns-30
+returns-30 c =
+    let at-match = c .before .before in let found = at-match .before in let start = found .before in
+    keyed (start .args .near) (start .args .far) (start .args .field) (c .placed30 .ensures) (found .index-of .ensures)
+    (at-match .match .keys30)
+
+returns-31 : tie.Need-returns-31
+returns-31 c =
+    let at-match = c .before .before in let found = at-match .before in let start = found .before in
+    keyed (start .args .near) (start .args .far) (start .args .field) (c .placed31 .ensures) (found .index-of .ensures)
+    (at-match .match .keys31)
+
+returns-32 : tie.Need-returns-32
+returns-32 c =
+    let at-match = c .before .before in let found = at-match .before in let start = found .before in
+    keyed (start .args .near) (start .args .far) (start .args .field) (c .placed32 .ensures) (found .index-of .ensures)
+    (at-match .match .keys32)
+
+returns-33 : tie.Need-returns-33
+returns-33 c =
+    let found = c .before in let start = found .before in
+    none (start .args .near) (start .args .far) (start .args .field) _ refl (found .index-of .ensures) (c .match .rest)
+
+-- ---- what the toolchain asks for, and finds
 index-of-requires : tie.Need-index-of-requires
 index-of-requires c κs = search needs
 
@@ -211,176 +409,6 @@ array-copy-out-placed-32 c = search needs
 placed-requires-32 : tie.Need-placed-requires-32
 placed-requires-32 c κs = search needs
 
-of-requires : tie.Need-of-requires
-of-requires c κs = search needs
-
-returns : tie.Need-returns
-returns c =
-    let at-match = c .before .before in let found = at-match .before in let start = found .before in
-    keyed (start .args .near) (start .args .far) (start .args .field) (c .placed .ensures) (found .index-of .ensures) (at-match .match .keys1)
-
-returns-2 : tie.Need-returns-2
-returns-2 c =
-    let at-match = c .before .before in let found = at-match .before in let start = found .before in
-    keyed (start .args .near) (start .args .far) (start .args .field) (c .placed2 .ensures) (found .index-of .ensures) (at-match .match .keys2)
-
-returns-3 : tie.Need-returns-3
-returns-3 c =
-    let at-match = c .before .before in let found = at-match .before in let start = found .before in
-    keyed (start .args .near) (start .args .far) (start .args .field) (c .placed3 .ensures) (found .index-of .ensures) (at-match .match .keys3)
-
-returns-4 : tie.Need-returns-4
-returns-4 c =
-    let at-match = c .before .before in let found = at-match .before in let start = found .before in
-    keyed (start .args .near) (start .args .far) (start .args .field) (c .placed4 .ensures) (found .index-of .ensures) (at-match .match .keys4)
-
-returns-5 : tie.Need-returns-5
-returns-5 c =
-    let at-match = c .before .before in let found = at-match .before in let start = found .before in
-    keyed (start .args .near) (start .args .far) (start .args .field) (c .placed5 .ensures) (found .index-of .ensures) (at-match .match .keys5)
-
-returns-6 : tie.Need-returns-6
-returns-6 c =
-    let at-match = c .before .before in let found = at-match .before in let start = found .before in
-    keyed (start .args .near) (start .args .far) (start .args .field) (c .placed6 .ensures) (found .index-of .ensures) (at-match .match .keys6)
-
-returns-7 : tie.Need-returns-7
-returns-7 c =
-    let at-match = c .before .before in let found = at-match .before in let start = found .before in
-    keyed (start .args .near) (start .args .far) (start .args .field) (c .placed7 .ensures) (found .index-of .ensures) (at-match .match .keys7)
-
-returns-8 : tie.Need-returns-8
-returns-8 c =
-    let at-match = c .before .before in let found = at-match .before in let start = found .before in
-    keyed (start .args .near) (start .args .far) (start .args .field) (c .placed8 .ensures) (found .index-of .ensures) (at-match .match .keys8)
-
-returns-9 : tie.Need-returns-9
-returns-9 c =
-    let at-match = c .before .before in let found = at-match .before in let start = found .before in
-    keyed (start .args .near) (start .args .far) (start .args .field) (c .placed9 .ensures) (found .index-of .ensures) (at-match .match .keys9)
-
-returns-10 : tie.Need-returns-10
-returns-10 c =
-    let at-match = c .before .before in let found = at-match .before in let start = found .before in
-    keyed (start .args .near) (start .args .far) (start .args .field) (c .placed10 .ensures) (found .index-of .ensures) (at-match .match .keys10)
-
-returns-11 : tie.Need-returns-11
-returns-11 c =
-    let at-match = c .before .before in let found = at-match .before in let start = found .before in
-    keyed (start .args .near) (start .args .far) (start .args .field) (c .placed11 .ensures) (found .index-of .ensures) (at-match .match .keys11)
-
-returns-12 : tie.Need-returns-12
-returns-12 c =
-    let at-match = c .before .before in let found = at-match .before in let start = found .before in
-    keyed (start .args .near) (start .args .far) (start .args .field) (c .placed12 .ensures) (found .index-of .ensures) (at-match .match .keys12)
-
-returns-13 : tie.Need-returns-13
-returns-13 c =
-    let at-match = c .before .before in let found = at-match .before in let start = found .before in
-    keyed (start .args .near) (start .args .far) (start .args .field) (c .placed13 .ensures) (found .index-of .ensures) (at-match .match .keys13)
-
-returns-14 : tie.Need-returns-14
-returns-14 c =
-    let at-match = c .before .before in let found = at-match .before in let start = found .before in
-    keyed (start .args .near) (start .args .far) (start .args .field) (c .placed14 .ensures) (found .index-of .ensures) (at-match .match .keys14)
-
-returns-15 : tie.Need-returns-15
-returns-15 c =
-    let at-match = c .before .before in let found = at-match .before in let start = found .before in
-    keyed (start .args .near) (start .args .far) (start .args .field) (c .placed15 .ensures) (found .index-of .ensures) (at-match .match .keys15)
-
-returns-16 : tie.Need-returns-16
-returns-16 c =
-    let at-match = c .before .before in let found = at-match .before in let start = found .before in
-    keyed (start .args .near) (start .args .far) (start .args .field) (c .placed16 .ensures) (found .index-of .ensures) (at-match .match .keys16)
-
-returns-17 : tie.Need-returns-17
-returns-17 c =
-    let at-match = c .before .before in let found = at-match .before in let start = found .before in
-    keyed (start .args .near) (start .args .far) (start .args .field) (c .placed17 .ensures) (found .index-of .ensures) (at-match .match .keys17)
-
-returns-18 : tie.Need-returns-18
-returns-18 c =
-    let at-match = c .before .before in let found = at-match .before in let start = found .before in
-    keyed (start .args .near) (start .args .far) (start .args .field) (c .placed18 .ensures) (found .index-of .ensures) (at-match .match .keys18)
-
-returns-19 : tie.Need-returns-19
-returns-19 c =
-    let at-match = c .before .before in let found = at-match .before in let start = found .before in
-    keyed (start .args .near) (start .args .far) (start .args .field) (c .placed19 .ensures) (found .index-of .ensures) (at-match .match .keys19)
-
-returns-20 : tie.Need-returns-20
-returns-20 c =
-    let at-match = c .before .before in let found = at-match .before in let start = found .before in
-    keyed (start .args .near) (start .args .far) (start .args .field) (c .placed20 .ensures) (found .index-of .ensures) (at-match .match .keys20)
-
-returns-21 : tie.Need-returns-21
-returns-21 c =
-    let at-match = c .before .before in let found = at-match .before in let start = found .before in
-    keyed (start .args .near) (start .args .far) (start .args .field) (c .placed21 .ensures) (found .index-of .ensures) (at-match .match .keys21)
-
-returns-22 : tie.Need-returns-22
-returns-22 c =
-    let at-match = c .before .before in let found = at-match .before in let start = found .before in
-    keyed (start .args .near) (start .args .far) (start .args .field) (c .placed22 .ensures) (found .index-of .ensures) (at-match .match .keys22)
-
-returns-23 : tie.Need-returns-23
-returns-23 c =
-    let at-match = c .before .before in let found = at-match .before in let start = found .before in
-    keyed (start .args .near) (start .args .far) (start .args .field) (c .placed23 .ensures) (found .index-of .ensures) (at-match .match .keys23)
-
-returns-24 : tie.Need-returns-24
-returns-24 c =
-    let at-match = c .before .before in let found = at-match .before in let start = found .before in
-    keyed (start .args .near) (start .args .far) (start .args .field) (c .placed24 .ensures) (found .index-of .ensures) (at-match .match .keys24)
-
-returns-25 : tie.Need-returns-25
-returns-25 c =
-    let at-match = c .before .before in let found = at-match .before in let start = found .before in
-    keyed (start .args .near) (start .args .far) (start .args .field) (c .placed25 .ensures) (found .index-of .ensures) (at-match .match .keys25)
-
-returns-26 : tie.Need-returns-26
-returns-26 c =
-    let at-match = c .before .before in let found = at-match .before in let start = found .before in
-    keyed (start .args .near) (start .args .far) (start .args .field) (c .placed26 .ensures) (found .index-of .ensures) (at-match .match .keys26)
-
-returns-27 : tie.Need-returns-27
-returns-27 c =
-    let at-match = c .before .before in let found = at-match .before in let start = found .before in
-    keyed (start .args .near) (start .args .far) (start .args .field) (c .placed27 .ensures) (found .index-of .ensures) (at-match .match .keys27)
-
-returns-28 : tie.Need-returns-28
-returns-28 c =
-    let at-match = c .before .before in let found = at-match .before in let start = found .before in
-    keyed (start .args .near) (start .args .far) (start .args .field) (c .placed28 .ensures) (found .index-of .ensures) (at-match .match .keys28)
-
-returns-29 : tie.Need-returns-29
-returns-29 c =
-    let at-match = c .before .before in let found = at-match .before in let start = found .before in
-    keyed (start .args .near) (start .args .far) (start .args .field) (c .placed29 .ensures) (found .index-of .ensures) (at-match .match .keys29)
-
-returns-30 : tie.Need-returns-30
-returns-30 c =
-    let at-match = c .before .before in let found = at-match .before in let start = found .before in
-    keyed (start .args .near) (start .args .far) (start .args .field) (c .placed30 .ensures) (found .index-of .ensures) (at-match .match .keys30)
-
-returns-31 : tie.Need-returns-31
-returns-31 c =
-    let at-match = c .before .before in let found = at-match .before in let start = found .before in
-    keyed (start .args .near) (start .args .far) (start .args .field) (c .placed31 .ensures) (found .index-of .ensures) (at-match .match .keys31)
-
-returns-32 : tie.Need-returns-32
-returns-32 c =
-    let at-match = c .before .before in let found = at-match .before in let start = found .before in
-    keyed (start .args .near) (start .args .far) (start .args .field) (c .placed32 .ensures) (found .index-of .ensures) (at-match .match .keys32)
-
-returns-33 : tie.Need-returns-33
-returns-33 c =
-    let at-match = c .before in
-    let found = at-match .before in
-    let start = found .before in
-    none (start .args .near) (start .args .far) (start .args .field) _ (c .of .ensures) (found .index-of .ensures) (at-match .match .rest)
-
 pub row-spec : {M : Type 1} → statement M
 row-spec =
     tie.close
@@ -450,7 +478,6 @@ row-spec =
     placed-requires-31
     array-copy-out-placed-32
     placed-requires-32
-    of-requires
     returns
     returns-2
     returns-3

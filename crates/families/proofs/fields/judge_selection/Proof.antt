@@ -7,11 +7,21 @@ use Rattle.families.proofs.fields.judge_selection.Statement.{statement}
 use Rattle.families.proofs.fields.judge_selection.Tie as tie
 
 returns : tie.Need-returns
-returns c = rw (eq-eqb (c .before .before .args .l) 0 (omega (arith, c .before .if1 .taken)), lt-ltb 55 (c .before .before .args .head) (omega (arith, c .if2 .taken)))
+returns c = rw (
+  eq-eqb (c .before .before .args .label) 0 (omega (arith, c .before .if1 .taken)),
+  lt-ltb 55 (c .before .before .args .head) (omega (arith, c .if2 .taken)),
+)
 
 returns-2 : tie.Need-returns-2
-returns-2 c = rw (eq-eqb (c .before .before .args .l) 0 (omega (arith, c .before .if1 .taken)), le-ltb 55 (c .before .before .args .head) (omega (arith, c .if2 .left)))
+returns-2 c = rw (
+  eq-eqb (c .before .before .args .label) 0 (omega (arith, c .before .if1 .taken)),
+  le-ltb 55 (c .before .before .args .head) (omega (arith, c .if2 .left)),
+)
 
+returns-3 : tie.Need-returns-3
+returns-3 c = rw (ne-eqb (c .before .before .args .label) 0 (λ e. omega (arith, e, c .before .if1 .left))) (c .room .ensures)
+
+-- ---- what the toolchain asks for, and finds
 add-room : tie.Need-add-room
 add-room c = search needs
 
@@ -26,9 +36,6 @@ add-room-4 c = search needs
 
 room-requires : tie.Need-room-requires
 room-requires c κs = search needs
-
-returns-3 : tie.Need-returns-3
-returns-3 c = rw (ne-eqb (c .before .before .args .l) 0 (λ e. omega (arith, e, c .before .if1 .left))) (c .room .ensures)
 
 pub judge-selection-spec : {M : Type 1} → statement M
 judge-selection-spec =

@@ -3,6 +3,20 @@ use borrow.Author.Needs.{needs}
 use Rattle.families.proofs.fields.judge_sizes.Statement.{statement}
 use Rattle.families.proofs.fields.judge_sizes.Tie as tie
 
+judge-selection-requires : tie.Need-judge-selection-requires
+judge-selection-requires c κs = let h = c .before .before .before .pre .1 .0 (c .enum-told3 .given .1) in
+    ((c .before .before .before .pre .0, h .0), (h .1, c .before .before .values-size .ensures .1))
+
+returns-2 : tie.Need-returns-2
+returns-2 c = rw (c .before .before .enum-told .given .1, c .before .if1 .left) (c .room .ensures)
+
+returns-3 : tie.Need-returns-3
+returns-3 c = rw (c .before .enum-told2 .given .1, ← (c .before .before .before .values-size .ensures .0)) (c .room2 .ensures)
+
+returns-4 : tie.Need-returns-4
+returns-4 c = rw (c .before .enum-told3 .given .1, ← (c .before .before .before .values-size .ensures .0)) (c .judge-selection .ensures)
+
+-- ---- what the toolchain asks for, and finds
 values-size-requires : tie.Need-values-size-requires
 values-size-requires c κs = search needs
 
@@ -29,18 +43,6 @@ room-requires-2 c κs = search needs
 
 enum-told-3 : tie.Need-enum-told-3
 enum-told-3 c = search needs
-
-judge-selection-requires : tie.Need-judge-selection-requires
-judge-selection-requires c κs = let h = c .before .before .before .pre .1 .0 (c .enum-told3 .given .1) in ((c .before .before .before .pre .0, h .0), (h .1, c .before .before .values-size .ensures .1))
-
-returns-2 : tie.Need-returns-2
-returns-2 c = rw (c .before .before .enum-told .given .1, c .before .if1 .left) (c .room .ensures)
-
-returns-3 : tie.Need-returns-3
-returns-3 c = rw (c .before .enum-told2 .given .1, ← (c .before .before .before .values-size .ensures .0)) (c .room2 .ensures)
-
-returns-4 : tie.Need-returns-4
-returns-4 c = rw (c .before .enum-told3 .given .1, ← (c .before .before .before .values-size .ensures .0)) (c .judge-selection .ensures)
 
 pub judge-sizes-spec : {M : Type 1} → statement M
 judge-sizes-spec =

@@ -1,8 +1,35 @@
 -- The texts of a selection are made. Assumes nothing.
+use borrow.Author.Tests.{not-true, not-false}
 use borrow.Author.Needs.{needs}
 use Rattle.families.proofs.fields.more_made.Statement.{statement}
 use Rattle.families.proofs.fields.more_made.Tie as tie
 
+returns : tie.Need-returns
+returns c = rw (
+  c .before .before .before .enum-told3 .given .1,
+  ← (c .before .made .ensures),
+  not-true (c .before .made .result) (c .if1 .taken),
+)
+
+returns-2 : tie.Need-returns-2
+returns-2 c = rw (c .enum-told .given .1)
+
+returns-3 : tie.Need-returns-3
+returns-3 c = rw (c .enum-told2 .given .1)
+
+returns-4 : tie.Need-returns-4
+returns-4 c =
+    let at-if1 = c .before .before in
+    let at-made = at-if1 .before in
+    let at-enum-told3 = at-made .before .before in
+    rw (
+      at-enum-told3 .enum-told3 .given .1,
+      ← (at-made .made .ensures),
+      not-false (at-made .made .result)
+          (at-if1 .if1 .left),
+    ) (c .made2 .ensures)
+
+-- ---- what the toolchain asks for, and finds
 enum-told : tie.Need-enum-told
 enum-told c = search needs
 
@@ -18,18 +45,6 @@ made-requires c κs = search needs
 made-requires-2 : tie.Need-made-requires-2
 made-requires-2 c κs = search needs
 
-returns : tie.Need-returns
-returns c = rw (c .before .before .before .before .before .enum-told3 .given .1, ← (c .before .before .before .made .ensures), c .before .before .if1 .taken) (c .made2 .ensures)
-
-returns-2 : tie.Need-returns-2
-returns-2 c = rw (c .enum-told .given .1)
-
-returns-3 : tie.Need-returns-3
-returns-3 c = rw (c .enum-told2 .given .1)
-
-returns-4 : tie.Need-returns-4
-returns-4 c = rw (c .before .before .before .enum-told3 .given .1, ← (c .before .made .ensures), c .if1 .left)
-
 pub more-made-spec : {M : Type 1} → statement M
 more-made-spec =
     tie.close
@@ -38,8 +53,8 @@ more-made-spec =
     enum-told-2
     enum-told-3
     made-requires
-    made-requires-2
     returns
+    made-requires-2
     returns-2
     returns-3
     returns-4)

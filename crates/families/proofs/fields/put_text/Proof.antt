@@ -9,20 +9,33 @@ use borrow.Author.Needs.{needs}
 use Rattle.families.proofs.fields.put_text.Statement.{statement}
 use Rattle.families.proofs.fields.put_text.Tie as tie
 
-array-share-prefix-b : tie.Need-array-share-prefix-b
-array-share-prefix-b c = let l : length (c .before .before .before .args .t .bytes) ≡ 51 = search needs in omega arith
+array-share-prefix-bytes : tie.Need-array-share-prefix-bytes
+array-share-prefix-bytes c = let l : length (c .before .before .before .args .text .bytes) ≡ 51 = search needs in omega arith
 
 slice-aggregate-put-bytes : tie.Need-slice-aggregate-put-bytes
-slice-aggregate-put-bytes c = let l : length (c .before .before .before .before .args .t .bytes) ≡ 51 = search needs in sym (length-take-le (c .before .before .before .before .args .t .len) (c .before .before .before .before .args .t .bytes) (omega arith))
+slice-aggregate-put-bytes c = let l : length (c .before .before .before .before .args .text .bytes) ≡ 51 = search needs in
+    sym (length-take-le (c .before .before .before .before .args .text .len)
+    (c .before .before .before .before .args .text .bytes) (omega arith))
 
+returns : tie.Need-returns
+returns c =
+    let at-put-bytes = c .before .before in
+    let at-start = at-put-bytes .before .before .before .before .before in
+    let l : length (at-start .args .text .bytes) ≡ 51 = search needs in (
+      text-put (now (at-start .args .out)) _ (at-start .args .text) (at-start .args .at) l (at-start .pre .0)
+          (at-start .pre .1) (at-put-bytes .put-bytes .ensures),
+      refl,
+    )
+
+-- ---- what the toolchain asks for, and finds
 put-bytes-requires : tie.Need-put-bytes-requires
 put-bytes-requires c κs = search needs
 
-add-s : tie.Need-add-s
-add-s c = search needs
+add-out : tie.Need-add-out
+add-out c = search needs
 
-slice-write-s : tie.Need-slice-write-s
-slice-write-s c = search needs
+slice-write-out : tie.Need-slice-write-out
+slice-write-out c = search needs
 
 add-result : tie.Need-add-result
 add-result c = search needs
@@ -33,18 +46,15 @@ add-result-2 c = search needs
 same-length : tie.Need-same-length
 same-length c = search needs
 
-returns : tie.Need-returns
-returns c = let l : length (c .before .before .before .before .before .before .before .args .t .bytes) ≡ 51 = search needs in (text-put (now (c .before .before .before .before .before .before .before .args .s)) _ (c .before .before .before .before .before .before .before .args .t) (c .before .before .before .before .before .before .before .args .at) l (c .before .before .before .before .before .before .before .pre .0) (c .before .before .before .before .before .before .before .pre .1) (c .before .before .put-bytes .ensures), refl)
-
 pub put-text-spec : {M : Type 1} → statement M
 put-text-spec =
     tie.close
     (tie.spec
-    array-share-prefix-b
+    array-share-prefix-bytes
     slice-aggregate-put-bytes
     put-bytes-requires
-    add-s
-    slice-write-s
+    add-out
+    slice-write-out
     add-result
     add-result-2
     same-length

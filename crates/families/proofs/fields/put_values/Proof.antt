@@ -2,21 +2,36 @@
 use native.Mathlib.Omega.{arith}
 use denote.Ref.{now}
 use Rattle.families.proofs.PutFields.{values-put, values-none, values-size}
+use borrow.Author.Tests.{not-true, not-false}
 use borrow.Author.Needs.{needs}
 use Rattle.families.proofs.fields.put_values.Statement.{statement}
 use Rattle.families.proofs.fields.put_values.Tie as tie
 
-put-text-requires : tie.Need-put-text-requires
-put-text-requires c κs = let e = values-size (c .before .before .before .before .args .f .«has_possible_values») (c .before .before .before .before .args .f .«possible_values» .len) (c .before .before .if1 .taken) in (omega (arith, e, c .before .before .before .before .pre .1), c .before .before .before .before .pre .0 (c .before .before .if1 .taken))
+returns : tie.Need-returns
+returns c = values-none (c .before .before .before .args .fields)
+    (c .before .before .before .args .fields .«has_possible_values») (not-true _ (c .if1 .taken))
+    (now (c .before .before .before .args .out)) (c .before .before .before .args .at)
 
+put-text-requires : tie.Need-put-text-requires
+put-text-requires c κs =
+    let at-if1 = c .before .before in
+    let at-start = at-if1 .before .before .before in
+    let e = values-size (at-start .args .fields .«has_possible_values») (at-start .args .fields .«possible_values» .len)
+    (not-false _ (at-if1 .if1 .left)) in
+    (omega (arith, e, at-start .pre .1), at-start .pre .0 (not-false _ (at-if1 .if1 .left)))
+
+returns-2 : tie.Need-returns-2
+returns-2 c =
+    let at-put-text = c .before .before in
+    let at-if1 = at-put-text .before .before .before in
+    let at-start = at-if1 .before .before .before in
+    values-put (at-start .args .fields) (at-start .args .fields .«has_possible_values»)
+    (not-false _ (at-if1 .if1 .left)) (now (at-start .args .out)) _ (at-start .args .at) _
+    (at-put-text .put-text .ensures)
+
+-- ---- what the toolchain asks for, and finds
 same-length : tie.Need-same-length
 same-length c = search needs
 
-returns : tie.Need-returns
-returns c = values-put (c .before .before .before .before .before .before .before .args .f) (c .before .before .before .before .before .before .before .args .f .«has_possible_values») (c .before .before .before .before .before .if1 .taken) (now (c .before .before .before .before .before .before .before .args .s)) _ (c .before .before .before .before .before .before .before .args .at) _ (c .before .before .put-text .ensures)
-
-returns-2 : tie.Need-returns-2
-returns-2 c = values-none (c .before .before .args .f) (c .before .before .args .f .«has_possible_values») (c .if1 .left) (now (c .before .before .args .s)) (c .before .before .args .at)
-
 pub put-values-spec : {M : Type 1} → statement M
-put-values-spec = tie.close (tie.spec put-text-requires same-length returns returns-2)
+put-values-spec = tie.close (tie.spec returns put-text-requires same-length returns-2)

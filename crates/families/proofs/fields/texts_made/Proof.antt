@@ -1,8 +1,58 @@
 -- Every text that is present is made. Assumes nothing.
+use borrow.Author.Tests.{not-true, not-false}
 use borrow.Author.Needs.{needs}
 use Rattle.families.proofs.fields.texts_made.Statement.{statement}
 use Rattle.families.proofs.fields.texts_made.Tie as tie
 
+returns : tie.Need-returns
+returns c = rw (← (c .before .made .ensures), not-true (c .before .made .result) (c .if1 .taken))
+
+returns-2 : tie.Need-returns-2
+returns-2 c =
+    let at-made2 = c .before in
+    let at-if1 = at-made2 .before .before in
+    let at-made = at-if1 .before in
+    rw (
+      ← (at-made .made .ensures),
+      not-false (at-made .made .result) (at-if1 .if1 .left),
+      ← (at-made2 .made2 .ensures),
+      not-true (at-made2 .made2 .result) (c .if2 .taken),
+    )
+
+returns-3 : tie.Need-returns-3
+returns-3 c =
+    let at-more-made = c .before in
+    let at-if2 = at-more-made .before in
+    let at-made2 = at-if2 .before in
+    let at-if1 = at-made2 .before .before in
+    let at-made = at-if1 .before in
+    rw (
+      ← (at-made .made .ensures),
+      not-false (at-made .made .result) (at-if1 .if1 .left),
+      ← (at-made2 .made2 .ensures),
+      not-false (at-made2 .made2 .result) (at-if2 .if2 .left),
+      ← (at-more-made .more-made .ensures),
+      not-true (at-more-made .more-made .result) (c .if3 .taken),
+    )
+
+returns-4 : tie.Need-returns-4
+returns-4 c =
+    let at-if3 = c .before in
+    let at-more-made = at-if3 .before in
+    let at-if2 = at-more-made .before in
+    let at-made2 = at-if2 .before in
+    let at-if1 = at-made2 .before .before in
+    let at-made = at-if1 .before in
+    rw (
+      ← (at-made .made .ensures),
+      not-false (at-made .made .result) (at-if1 .if1 .left),
+      ← (at-made2 .made2 .ensures),
+      not-false (at-made2 .made2 .result) (at-if2 .if2 .left),
+      ← (at-more-made .more-made .ensures),
+      not-false (at-more-made .more-made .result) (at-if3 .if3 .left),
+    ) (c .values-made .ensures)
+
+-- ---- what the toolchain asks for, and finds
 made-requires : tie.Need-made-requires
 made-requires c κs = search needs
 
@@ -15,27 +65,15 @@ more-made-requires c κs = search needs
 values-made-requires : tie.Need-values-made-requires
 values-made-requires c κs = search needs
 
-returns : tie.Need-returns
-returns c = rw (← (c .before .before .before .before .before .before .before .made .ensures), c .before .before .before .before .before .before .if1 .taken, ← (c .before .before .before .before .made2 .ensures), c .before .before .before .if2 .taken, ← (c .before .before .more-made .ensures), c .before .if3 .taken) (c .values-made .ensures)
-
-returns-2 : tie.Need-returns-2
-returns-2 c = rw (← (c .before .before .before .before .before .before .made .ensures), c .before .before .before .before .before .if1 .taken, ← (c .before .before .before .made2 .ensures), c .before .before .if2 .taken, ← (c .before .more-made .ensures), c .if3 .left)
-
-returns-3 : tie.Need-returns-3
-returns-3 c = rw (← (c .before .before .before .before .made .ensures), c .before .before .before .if1 .taken, ← (c .before .made2 .ensures), c .if2 .left)
-
-returns-4 : tie.Need-returns-4
-returns-4 c = rw (← (c .before .made .ensures), c .if1 .left)
-
 pub texts-made-spec : {M : Type 1} → statement M
 texts-made-spec =
     tie.close
     (tie.spec
     made-requires
-    made-requires-2
-    more-made-requires
-    values-made-requires
     returns
+    made-requires-2
     returns-2
+    more-made-requires
     returns-3
+    values-made-requires
     returns-4)

@@ -10,6 +10,7 @@ add-result c = let h = c .before .pre (c .if1 .taken) in omega arith
 returns : tie.Need-returns
 returns c = let h = c .before .pre (c .if1 .taken) in (rw (c .if1 .taken), omega arith)
 
+-- ---- what the toolchain asks for, and finds
 returns-2 : tie.Need-returns-2
 returns-2 c = search needs
 

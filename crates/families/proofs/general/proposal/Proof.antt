@@ -4,20 +4,11 @@ use borrow.Author.Needs.{needs}
 use Rattle.families.proofs.general.proposal.Statement.{statement}
 use Rattle.families.proofs.general.proposal.Tie as tie
 
-enum-known-port : tie.Need-enum-known-port
-enum-known-port c = search needs
-
-enum-known-baud : tie.Need-enum-known-baud
-enum-known-baud c = search needs
-
 cast-t9 : tie.Need-cast-t9
-cast-t9 c = let h = rw (c .before .before .before .before .port .given .1) at (c .before .before .before .before .before .before .pre) in omega arith
-
-enum-known-baud-2 : tie.Need-enum-known-baud-2
-enum-known-baud-2 c = search needs
-
-enum-known-port-2 : tie.Need-enum-known-port-2
-enum-known-port-2 c = search needs
+cast-t9 c =
+    let at-port = c .before .before .before .before in
+    let at-start = at-port .before .before in
+    let h = rw (at-port .port .given .1) at (at-start .pre) in omega arith
 
 returns : tie.Need-returns
 returns c = rw (c .before .before .before .before .port .given .1, c .before .baud .given .1)
@@ -27,6 +18,19 @@ returns-2 c = rw (c .before .before .before .before .port .given .1, c .before .
 
 returns-3 : tie.Need-returns-3
 returns-3 c = rw (c .before .port2 .given .1)
+
+-- ---- what the toolchain asks for, and finds
+enum-known-port : tie.Need-enum-known-port
+enum-known-port c = search needs
+
+enum-known-baud : tie.Need-enum-known-baud
+enum-known-baud c = search needs
+
+enum-known-baud-2 : tie.Need-enum-known-baud-2
+enum-known-baud-2 c = search needs
+
+enum-known-port-2 : tie.Need-enum-known-port-2
+enum-known-port-2 c = search needs
 
 pub proposal-spec : {M : Type 1} → statement M
 proposal-spec =

@@ -1,20 +1,15 @@
 -- `general::read_behind` meets its contract. Assumes nothing.
+use native.Mathlib.Omega.{arith}
 use borrow.Author.Tests.{ne-eqb}
 use borrow.Author.Needs.{needs}
 use Rattle.families.proofs.general.read_behind.Statement.{statement}
 use Rattle.families.proofs.general.read_behind.Tie as tie
 
-enum-known-sub : tie.Need-enum-known-sub
-enum-known-sub c = search needs
-
-read-proposal-requires : tie.Need-read-proposal-requires
-read-proposal-requires c κs = search needs
-
-read-response-requires : tie.Need-read-response-requires
-read-response-requires c κs = search needs
-
-enum-known-sub-2 : tie.Need-enum-known-sub-2
-enum-known-sub-2 c = search needs
+cast-match2 : tie.Need-cast-match2
+cast-match2 c =
+    let at-sub = c .before in
+    let at-start = at-sub .before .before .before in
+    let h = rw (at-sub .sub .given .1) at (at-start .pre) in omega arith
 
 returns : tie.Need-returns
 returns c = rw (c .before .before .before .sub .given .1, c .before .match2 .keys1) (c .read-proposal .ensures)
@@ -28,11 +23,25 @@ returns-3 c = let k = c .match2 .rest in rw (c .before .before .sub .given .1, n
 returns-4 : tie.Need-returns-4
 returns-4 c = rw (c .before .sub2 .given .1)
 
+-- ---- what the toolchain asks for, and finds
+enum-known-sub : tie.Need-enum-known-sub
+enum-known-sub c = search needs
+
+read-proposal-requires : tie.Need-read-proposal-requires
+read-proposal-requires c κs = search needs
+
+read-response-requires : tie.Need-read-response-requires
+read-response-requires c κs = search needs
+
+enum-known-sub-2 : tie.Need-enum-known-sub-2
+enum-known-sub-2 c = search needs
+
 pub read-behind-spec : {M : Type 1} → statement M
 read-behind-spec =
     tie.close
     (tie.spec
     enum-known-sub
+    cast-match2
     read-proposal-requires
     read-response-requires
     enum-known-sub-2

@@ -3,6 +3,19 @@ use borrow.Author.Needs.{needs}
 use Rattle.families.proofs.general.write_to.Statement.{statement}
 use Rattle.families.proofs.general.write_to.Tie as tie
 
+returns : tie.Need-returns
+returns c =
+    let at-write-proposal = c .before .before in
+    let at-command = at-write-proposal .before .before .before in
+    rw (at-command .command .given .1) (at-write-proposal .write-proposal .ensures)
+
+returns-2 : tie.Need-returns-2
+returns-2 c =
+    let at-write-response = c .before .before in
+    let at-command2 = at-write-response .before .before .before in
+    rw (at-command2 .command2 .given .1) (at-write-response .write-response .ensures)
+
+-- ---- what the toolchain asks for, and finds
 enum-known-command : tie.Need-enum-known-command
 enum-known-command c = search needs
 
@@ -18,14 +31,8 @@ write-response-requires c κs = search needs
 same-length : tie.Need-same-length
 same-length c = search needs
 
-returns : tie.Need-returns
-returns c = rw (c .before .before .before .before .before .command .given .1) (c .before .before .write-proposal .ensures)
-
 same-length-2 : tie.Need-same-length-2
 same-length-2 c = search needs
-
-returns-2 : tie.Need-returns-2
-returns-2 c = rw (c .before .before .before .before .before .command2 .given .1) (c .before .before .write-response .ensures)
 
 pub write-to-spec : {M : Type 1} → statement M
 write-to-spec =

@@ -5,6 +5,26 @@ use borrow.Author.Needs.{needs}
 use Rattle.families.proofs.led.color_of.Statement.{statement}
 use Rattle.families.proofs.led.color_of.Tie as tie
 
+returns : tie.Need-returns
+returns c = rw (
+  colour-judged _ _ (colorSays (c .before .before .unpacked .result)) (c .before .valid .result)
+      (c .before .before .before .before .bytes .given .1) (c .before .before .unpacked .ensures)
+      (c .before .valid .ensures),
+  c .if1 .taken,
+)
+
+returns-2 : tie.Need-returns-2
+returns-2 c = rw (
+  colour-judged _ _ (colorSays (c .before .before .unpacked .result)) (c .before .valid .result)
+      (c .before .before .before .before .bytes .given .1) (c .before .before .unpacked .ensures)
+      (c .before .valid .ensures),
+  c .if1 .left,
+)
+
+returns-3 : tie.Need-returns-3
+returns-3 c = rw (c .before .bytes2 .given .1)
+
+-- ---- what the toolchain asks for, and finds
 enum-known-bytes : tie.Need-enum-known-bytes
 enum-known-bytes c = search needs
 
@@ -16,15 +36,6 @@ valid-requires c κs = search needs
 
 enum-known-bytes-2 : tie.Need-enum-known-bytes-2
 enum-known-bytes-2 c = search needs
-
-returns : tie.Need-returns
-returns c = rw (colour-judged _ _ (colorSays (c .before .before .unpacked .result)) (c .before .valid .result) (c .before .before .before .before .bytes .given .1) (c .before .before .unpacked .ensures) (c .before .valid .ensures), c .if1 .taken)
-
-returns-2 : tie.Need-returns-2
-returns-2 c = rw (colour-judged _ _ (colorSays (c .before .before .unpacked .result)) (c .before .valid .result) (c .before .before .before .before .bytes .given .1) (c .before .before .unpacked .ensures) (c .before .valid .ensures), c .if1 .left)
-
-returns-3 : tie.Need-returns-3
-returns-3 c = rw (c .before .bytes2 .given .1)
 
 pub color-of-spec : {M : Type 1} → statement M
 color-of-spec =

@@ -2,14 +2,15 @@
 use mathlib.Core.Path.{_≡_, _∙_}
 use Prim.Native.Nat.{ℕ}
 use mathlib.Core.List.{List, [], _∷_}
-use base.Logic.{emp, id⊢}
+use base.Logic.{emp}
+use contract.Monad.{fact, factI}
 use contract.Running.{givenOf, tables, tablesOf}
 use denote.Triple.Spec.{tripleOf}
 use denote.Triple.Table.{entered, cited}
 use denote.Enum.Laws as EL
 use Rattle.codec.specs.Sheet.{andThen, byte, first}
 use Rattle.codec.specs.Reading.{readBody}
-use Rattle.codec.specs.Told.{toldNumber}
+use Rattle.codec.specs.Told.{toldNumber, atMost}
 use Rattle.codec.specs.Taking.{readBehind}
 use Rattle.codec.proofs.InRow.{body-taken}
 use Rattle.families.specs.Sheets.{ledRows}
@@ -33,7 +34,12 @@ use Rattle.families.proofs.led.read.Statement as stated
 use Rattle.families.proofs.led.read.Code as code
 
 abbrev answers : One
-answers = record { row = Z.the-row; ty = Z′.mir; typed = λ 𝓤 H A W x u p. EL.lawful Z.the-type Z′.the-laws 𝓤 H A W tt .typed x (u ∷ []) p .0 }
+answers = record {
+  row = Z.the-row;
+  ty = Z′.mir;
+  typed = λ 𝓤 H A W x u p. EL.lawful Z.the-type Z′.the-laws 𝓤 H A W
+      tt .typed x (u ∷ []) p .0;
+}
 
 abbrev Judged : NumberRead → List ℕ → LedRead → Type 0
 Judged n t z = toldLed z ≡ andThen (toldNumber n) (λ v. readBehind ledRows t (first v))
@@ -46,9 +52,13 @@ unfolding code.routine tablesOf
 read-spec 𝓤 H 𝓜 𝓖 𝓡 =
     entered 𝓤 H (tripleOf 𝓤 H (𝓖 .A) own.signature (own.spec 𝓤 H (𝓖 .A) (𝓜 .mem) (𝓡 .run)))
     (tables 𝓤 H 𝓜 𝓡 code.env .C) (tables 𝓤 H 𝓜 𝓡 code.env .Λ) key.name code.function (code.unfolded 𝓤 H 𝓜 𝓡)
-    (rest-meets numbers answers 𝓤 (λ _. emp 𝓤) Judged H (𝓖 .A) (givenOf 𝓤 H 𝓜 𝓖) (𝓜 .mem) (𝓡 .run) (number-says byte 255) Says (λ s n s1 e1. id⊢ 𝓤 (emp 𝓤))
+    (rest-meets numbers answers 𝓤 (λ n. fact 𝓤 (atMost 255 n)) Judged H (𝓖 .A) (givenOf 𝓤 H 𝓜 𝓖) (𝓜 .mem) (𝓡 .run)
+    (number-says byte 255) Says (λ s n s1 e1. factI 𝓤 (atMost 255 n) (emp 𝓤) (e1 .1))
     (λ s n s1 z e1 f. f ∙ body-taken ledRows (toldNumber n) s s1 (e1 .0))
     (tablesOf 𝓤 H 𝓜 (tables 𝓤 H 𝓜 𝓡 code.env)) byte-def.name judge-def.name
-    (λ κ q s. cited 𝓤 H (New 𝓤 H (𝓖 .A) (givenOf 𝓤 H 𝓜 𝓖) κ q 0 (𝓜 .mem) (𝓡 .run) s) 𝓜 𝓡 code.env new-def.name new-def.routine code.calls-codec·reader·Reader·new (new-thm.met 𝓤 H 𝓜 𝓖 𝓡))
-    (cited 𝓤 H (MethodC numbers 𝓤 (number-says byte 255) H (𝓖 .A)) 𝓜 𝓡 code.env byte-def.name byte-def.routine code.calls-codec·reader·Reader·byte (byte-thm.met 𝓤 H 𝓜 𝓖 𝓡))
-    (cited 𝓤 H (RestJudgeC numbers answers 𝓤 (λ _. emp 𝓤) Judged H (𝓖 .A)) 𝓜 𝓡 code.env judge-def.name judge-def.routine code.calls-families·led·read-behind (judge-thm.met 𝓤 H 𝓜 𝓖 𝓡)))
+    (λ κ q s. cited 𝓤 H (New 𝓤 H (𝓖 .A) (givenOf 𝓤 H 𝓜 𝓖) κ q 0 (𝓜 .mem) (𝓡 .run) s) 𝓜 𝓡 code.env new-def.name
+    new-def.routine code.calls-codec·reader·Reader·new (new-thm.met 𝓤 H 𝓜 𝓖 𝓡))
+    (cited 𝓤 H (MethodC numbers 𝓤 (number-says byte 255) H (𝓖 .A)) 𝓜 𝓡 code.env byte-def.name byte-def.routine
+    code.calls-codec·reader·Reader·byte (byte-thm.met 𝓤 H 𝓜 𝓖 𝓡))
+    (cited 𝓤 H (RestJudgeC numbers answers 𝓤 (λ n. fact 𝓤 (atMost 255 n)) Judged H (𝓖 .A)) 𝓜 𝓡 code.env judge-def.name judge-def.routine
+    code.calls-families·led·read-behind (judge-thm.met 𝓤 H 𝓜 𝓖 𝓡)))

@@ -33,7 +33,12 @@ use Rattle.families.proofs.led.read_color.Statement as stated
 use Rattle.families.proofs.led.read_color.Code as code
 
 abbrev answers : One
-answers = record { row = Z.the-row; ty = Z′.mir; typed = λ 𝓤 H A W x u p. EL.lawful Z.the-type Z′.the-laws 𝓤 H A W tt .typed x (u ∷ []) p .0 }
+answers = record {
+  row = Z.the-row;
+  ty = Z′.mir;
+  typed = λ 𝓤 H A W x u p. EL.lawful Z.the-type Z′.the-laws 𝓤 H A W
+      tt .typed x (u ∷ []) p .0;
+}
 
 abbrev Judged : NumberRead → LedRead → Type 0
 Judged n z = toldLed z ≡ andThen (inTurn (colorTold n ∷ [])) (λ vs. got (said 0x02 vs))
@@ -46,9 +51,14 @@ unfolding code.routine tablesOf
 read-color-spec 𝓤 H 𝓜 𝓖 𝓡 =
     entered 𝓤 H (tripleOf 𝓤 H (𝓖 .A) own.signature (own.spec 𝓤 H (𝓖 .A) (𝓜 .mem) (𝓡 .run)))
     (tables 𝓤 H 𝓜 𝓡 code.env .C) (tables 𝓤 H 𝓜 𝓡 code.env .Λ) key.name code.function (code.unfolded 𝓤 H 𝓜 𝓡)
-    (one-meets numbers answers 𝓤 (λ _. emp 𝓤) Judged H (𝓖 .A) (givenOf 𝓤 H 𝓜 𝓖) (𝓜 .mem) (𝓡 .run) (number-says (number 3 0 16777215) 16777215) Says (λ s n s1 e1. id⊢ 𝓤 (emp 𝓤))
-    (λ s n s1 z e1 f. f ∙ ap (λ (x : Answer (List (List ℕ))). andThen x (λ vs. got (said 0x02 vs))) (taken-reads (colour-next n (e1 .0) none)))
+    (one-meets numbers answers 𝓤 (λ _. emp 𝓤) Judged H (𝓖 .A) (givenOf 𝓤 H 𝓜 𝓖) (𝓜 .mem) (𝓡 .run)
+    (number-says (number 3 0 16777215) 16777215) Says (λ s n s1 e1. id⊢ 𝓤 (emp 𝓤))
+    (λ s n s1 z e1 f. f ∙ ap (λ (x : Answer (List (List ℕ))). andThen x (λ vs. got (said 0x02 vs)))
+    (taken-reads (colour-next n (e1 .0) none)))
     (tablesOf 𝓤 H 𝓜 (tables 𝓤 H 𝓜 𝓡 code.env)) u24-def.name judge-def.name
-    (λ κ q s. cited 𝓤 H (New 𝓤 H (𝓖 .A) (givenOf 𝓤 H 𝓜 𝓖) κ q 0 (𝓜 .mem) (𝓡 .run) s) 𝓜 𝓡 code.env new-def.name new-def.routine code.calls-codec·reader·Reader·new (new-thm.met 𝓤 H 𝓜 𝓖 𝓡))
-    (cited 𝓤 H (MethodC numbers 𝓤 (number-says (number 3 0 16777215) 16777215) H (𝓖 .A)) 𝓜 𝓡 code.env u24-def.name u24-def.routine code.calls-codec·reader·Reader·u24 (u24-thm.met 𝓤 H 𝓜 𝓖 𝓡))
-    (cited 𝓤 H (OneJudgeC numbers answers 𝓤 (λ _. emp 𝓤) Judged H (𝓖 .A)) 𝓜 𝓡 code.env judge-def.name judge-def.routine code.calls-families·led·color (judge-thm.met 𝓤 H 𝓜 𝓖 𝓡)))
+    (λ κ q s. cited 𝓤 H (New 𝓤 H (𝓖 .A) (givenOf 𝓤 H 𝓜 𝓖) κ q 0 (𝓜 .mem) (𝓡 .run) s) 𝓜 𝓡 code.env new-def.name
+    new-def.routine code.calls-codec·reader·Reader·new (new-thm.met 𝓤 H 𝓜 𝓖 𝓡))
+    (cited 𝓤 H (MethodC numbers 𝓤 (number-says (number 3 0 16777215) 16777215) H (𝓖 .A)) 𝓜 𝓡 code.env u24-def.name
+    u24-def.routine code.calls-codec·reader·Reader·u24 (u24-thm.met 𝓤 H 𝓜 𝓖 𝓡))
+    (cited 𝓤 H (OneJudgeC numbers answers 𝓤 (λ _. emp 𝓤) Judged H (𝓖 .A)) 𝓜 𝓡 code.env judge-def.name judge-def.routine
+    code.calls-families·led·color (judge-thm.met 𝓤 H 𝓜 𝓖 𝓡)))

@@ -37,7 +37,12 @@ use Rattle.families.proofs.led.read_fade.Statement as stated
 use Rattle.families.proofs.led.read_fade.Code as code
 
 abbrev answers : One
-answers = record { row = Z.the-row; ty = Z′.mir; typed = λ 𝓤 H A W x u p. EL.lawful Z.the-type Z′.the-laws 𝓤 H A W tt .typed x (u ∷ []) p .0 }
+answers = record {
+  row = Z.the-row;
+  ty = Z′.mir;
+  typed = λ 𝓤 H A W x u p. EL.lawful Z.the-type Z′.the-laws 𝓤 H A W
+      tt .typed x (u ∷ []) p .0;
+}
 
 abbrev Needed : NumberRead → NumberRead → NumberRead → Type 0
 Needed n m k = atMost 65535 n
@@ -53,11 +58,19 @@ unfolding code.routine tablesOf
 read-fade-spec 𝓤 H 𝓜 𝓖 𝓡 =
     entered 𝓤 H (tripleOf 𝓤 H (𝓖 .A) own.signature (own.spec 𝓤 H (𝓖 .A) (𝓜 .mem) (𝓡 .run)))
     (tables 𝓤 H 𝓜 𝓡 code.env .C) (tables 𝓤 H 𝓜 𝓡 code.env .Λ) key.name code.function (code.unfolded 𝓤 H 𝓜 𝓡)
-    (three-meets numbers numbers numbers answers 𝓤 (λ n m k. fact 𝓤 (Needed n m k)) Judged H (𝓖 .A) (givenOf 𝓤 H 𝓜 𝓖) (𝓜 .mem) (𝓡 .run) (number-says word 65535) (number-says (number 3 0 16777215) 16777215) (number-says (number 3 0 16777215) 16777215) Says (λ s n s1 m s2 k s3 e1 e2 e3. factI 𝓤 (Needed n m k) (emp 𝓤) (e1 .1))
+    (three-meets numbers numbers numbers answers 𝓤 (λ n m k. fact 𝓤 (Needed n m k)) Judged H (𝓖 .A) (givenOf 𝓤 H 𝓜 𝓖)
+    (𝓜 .mem) (𝓡 .run) (number-says word 65535) (number-says (number 3 0 16777215) 16777215)
+    (number-says (number 3 0 16777215) 16777215) Says
+    (λ s n s1 m s2 k s3 e1 e2 e3. factI 𝓤 (Needed n m k) (emp 𝓤) (e1 .1))
     (λ s n s1 m s2 k s3 z e1 e2 e3 f. f ∙ taken-reads (next (e1 .0) (colour-next m (e2 .0) (colour-next k (e3 .0) none))))
     (tablesOf 𝓤 H 𝓜 (tables 𝓤 H 𝓜 𝓡 code.env)) u16-def.name u24-def.name u24-def.name judge-def.name
-    (λ κ q s. cited 𝓤 H (New 𝓤 H (𝓖 .A) (givenOf 𝓤 H 𝓜 𝓖) κ q 0 (𝓜 .mem) (𝓡 .run) s) 𝓜 𝓡 code.env new-def.name new-def.routine code.calls-codec·reader·Reader·new (new-thm.met 𝓤 H 𝓜 𝓖 𝓡))
-    (cited 𝓤 H (MethodC numbers 𝓤 (number-says word 65535) H (𝓖 .A)) 𝓜 𝓡 code.env u16-def.name u16-def.routine code.calls-codec·reader·Reader·u16 (u16-thm.met 𝓤 H 𝓜 𝓖 𝓡))
-    (cited 𝓤 H (MethodC numbers 𝓤 (number-says (number 3 0 16777215) 16777215) H (𝓖 .A)) 𝓜 𝓡 code.env u24-def.name u24-def.routine code.calls-codec·reader·Reader·u24 (u24-thm.met 𝓤 H 𝓜 𝓖 𝓡))
-    (cited 𝓤 H (MethodC numbers 𝓤 (number-says (number 3 0 16777215) 16777215) H (𝓖 .A)) 𝓜 𝓡 code.env u24-def.name u24-def.routine code.calls-codec·reader·Reader·u24 (u24-thm.met 𝓤 H 𝓜 𝓖 𝓡))
-    (cited 𝓤 H (ThreeJudgeC numbers numbers numbers answers 𝓤 (λ n m k. fact 𝓤 (Needed n m k)) Judged H (𝓖 .A)) 𝓜 𝓡 code.env judge-def.name judge-def.routine code.calls-families·led·fade-of (judge-thm.met 𝓤 H 𝓜 𝓖 𝓡)))
+    (λ κ q s. cited 𝓤 H (New 𝓤 H (𝓖 .A) (givenOf 𝓤 H 𝓜 𝓖) κ q 0 (𝓜 .mem) (𝓡 .run) s) 𝓜 𝓡 code.env new-def.name
+    new-def.routine code.calls-codec·reader·Reader·new (new-thm.met 𝓤 H 𝓜 𝓖 𝓡))
+    (cited 𝓤 H (MethodC numbers 𝓤 (number-says word 65535) H (𝓖 .A)) 𝓜 𝓡 code.env u16-def.name u16-def.routine
+    code.calls-codec·reader·Reader·u16 (u16-thm.met 𝓤 H 𝓜 𝓖 𝓡))
+    (cited 𝓤 H (MethodC numbers 𝓤 (number-says (number 3 0 16777215) 16777215) H (𝓖 .A)) 𝓜 𝓡 code.env u24-def.name
+    u24-def.routine code.calls-codec·reader·Reader·u24 (u24-thm.met 𝓤 H 𝓜 𝓖 𝓡))
+    (cited 𝓤 H (MethodC numbers 𝓤 (number-says (number 3 0 16777215) 16777215) H (𝓖 .A)) 𝓜 𝓡 code.env u24-def.name
+    u24-def.routine code.calls-codec·reader·Reader·u24 (u24-thm.met 𝓤 H 𝓜 𝓖 𝓡))
+    (cited 𝓤 H (ThreeJudgeC numbers numbers numbers answers 𝓤 (λ n m k. fact 𝓤 (Needed n m k)) Judged H (𝓖 .A)) 𝓜 𝓡
+    code.env judge-def.name judge-def.routine code.calls-families·led·fade-of (judge-thm.met 𝓤 H 𝓜 𝓖 𝓡)))

@@ -4,6 +4,10 @@ use borrow.Author.Needs.{needs}
 use Rattle.families.proofs.led.unpacked.Statement.{statement}
 use Rattle.families.proofs.led.unpacked.Tie as tie
 
+returns : tie.Need-returns
+returns c = rw (div-one (c .args .n))
+
+-- ---- what the toolchain asks for, and finds
 cast-t4 : tie.Need-cast-t4
 cast-t4 c = search needs
 
@@ -12,9 +16,6 @@ cast-t7 c = search needs
 
 cast-t9 : tie.Need-cast-t9
 cast-t9 c = search needs
-
-returns : tie.Need-returns
-returns c = rw (div-one (c .args .n))
 
 pub unpacked-spec : {M : Type 1} → statement M
 unpacked-spec = tie.close (tie.spec cast-t4 cast-t7 cast-t9 returns)

@@ -3,6 +3,34 @@ use borrow.Author.Needs.{needs}
 use Rattle.families.proofs.led.write_to.Statement.{statement}
 use Rattle.families.proofs.led.write_to.Tie as tie
 
+returns : tie.Need-returns
+returns c = rw (c .before .before .before .before .enum-told .given .1) (c .before .before .write-alone .ensures)
+
+returns-2 : tie.Need-returns-2
+returns-2 c =
+    let at-write-color = c .before .before in
+    let at-command = at-write-color .before .before .before in
+    rw (at-command .command .given .1) (at-write-color .write-color .ensures)
+
+returns-3 : tie.Need-returns-3
+returns-3 c =
+    let at-write-fade = c .before .before in
+    let at-command2 = at-write-fade .before .before .before in
+    rw (at-command2 .command2 .given .1) (at-write-fade .write-fade .ensures)
+
+returns-4 : tie.Need-returns-4
+returns-4 c =
+    let at-write-fade2 = c .before .before in
+    let at-command3 = at-write-fade2 .before .before .before in
+    rw (at-command3 .command3 .given .1) (at-write-fade2 .write-fade2 .ensures)
+
+returns-5 : tie.Need-returns-5
+returns-5 c =
+    let at-write-shift = c .before .before in
+    let at-command4 = at-write-shift .before .before .before in
+    rw (at-command4 .command4 .given .1) (at-write-shift .write-shift .ensures)
+
+-- ---- what the toolchain asks for, and finds
 enum-told : tie.Need-enum-told
 enum-told c = search needs
 
@@ -36,32 +64,17 @@ write-shift-requires c κs = search needs
 same-length : tie.Need-same-length
 same-length c = search needs
 
-returns : tie.Need-returns
-returns c = rw (c .before .before .before .before .enum-told .given .1) (c .before .before .write-alone .ensures)
-
 same-length-2 : tie.Need-same-length-2
 same-length-2 c = search needs
-
-returns-2 : tie.Need-returns-2
-returns-2 c = rw (c .before .before .before .before .before .command .given .1) (c .before .before .write-color .ensures)
 
 same-length-3 : tie.Need-same-length-3
 same-length-3 c = search needs
 
-returns-3 : tie.Need-returns-3
-returns-3 c = rw (c .before .before .before .before .before .command2 .given .1) (c .before .before .write-fade .ensures)
-
 same-length-4 : tie.Need-same-length-4
 same-length-4 c = search needs
 
-returns-4 : tie.Need-returns-4
-returns-4 c = rw (c .before .before .before .before .before .command3 .given .1) (c .before .before .write-fade2 .ensures)
-
 same-length-5 : tie.Need-same-length-5
 same-length-5 c = search needs
-
-returns-5 : tie.Need-returns-5
-returns-5 c = rw (c .before .before .before .before .before .command4 .given .1) (c .before .before .write-shift .ensures)
 
 pub write-to-spec : {M : Type 1} → statement M
 write-to-spec =

@@ -1,55 +1,87 @@
--- `osd::read` meets its contract. Assumes nothing.
+-- Reading an OSD body is reading its sheet. Assumes nothing.
 use native.Mathlib.Omega.{arith}
 use borrow.Author.Tests.{ne-eqb}
 use borrow.Author.Needs.{needs}
 use Rattle.families.proofs.osd.read.Statement.{statement}
 use Rattle.families.proofs.osd.read.Tie as tie
 
-read-number-requires : tie.Need-read-number-requires
-read-number-requires c κs = search needs
+cast-sub : tie.Need-cast-sub
+cast-sub c = let h = rw (c .before .sub .given .1) at (c .before .before .before .read-byte .ensures .1) in omega arith
+
+returns : tie.Need-returns
+returns c = rw (← (c .before .before .before .read-byte .ensures .0), c .before .r .given .1)
+
+cast-t12 : tie.Need-cast-t12
+cast-t12 c = let h = rw (c .before .buttons .given .1) at (c .before .before .before .read-byte2 .ensures .1) in omega arith
+
+returns-2 : tie.Need-returns-2
+returns-2 c =
+    let at-buttons = c .before in
+    let at-read-byte2 = at-buttons .before .before in
+    let at-match2 = at-read-byte2 .before in
+    let at-sub = at-match2 .before .before in
+    let at-read-byte = at-sub .before .before in
+    rw (
+      ← (at-read-byte .read-byte .ensures .0),
+      at-sub .sub .given .1,
+      at-match2 .match2 .keys1,
+      ← (at-read-byte2 .read-byte2 .ensures .0),
+      at-buttons .buttons .given .1,
+    )
+
+returns-3 : tie.Need-returns-3
+returns-3 c =
+    let at-r2 = c .before in
+    let at-read-byte2 = at-r2 .before .before in
+    let at-match2 = at-read-byte2 .before in
+    let at-sub = at-match2 .before .before in
+    let at-read-byte = at-sub .before .before in
+    rw (
+      ← (at-read-byte .read-byte .ensures .0),
+      at-sub .sub .given .1,
+      at-match2 .match2 .keys1,
+      ← (at-read-byte2 .read-byte2 .ensures .0),
+      at-r2 .r2 .given .1,
+    )
+
+returns-4 : tie.Need-returns-4
+returns-4 c =
+    let at-sub = c .before .before in
+    let at-read-byte = at-sub .before .before in
+    let k = c .match2 .rest in rw (← (at-read-byte .read-byte .ensures .0), at-sub .sub .given .1, ne-eqb _ _ (k .1))
+
+-- ---- what the toolchain asks for, and finds
+read-byte-requires : tie.Need-read-byte-requires
+read-byte-requires c κs = search needs
 
 enum-known-sub : tie.Need-enum-known-sub
 enum-known-sub c = search needs
 
-read-number-requires-2 : tie.Need-read-number-requires-2
-read-number-requires-2 c κs = search needs
-
-enum-known-b : tie.Need-enum-known-b
-enum-known-b c = search needs
-
-cast-t13 : tie.Need-cast-t13
-cast-t13 c = let h = rw (c .before .b .given .1) at (c .before .before .before .read-number2 .ensures .1) in omega arith
-
 enum-known-r : tie.Need-enum-known-r
 enum-known-r c = search needs
 
+read-byte-requires-2 : tie.Need-read-byte-requires-2
+read-byte-requires-2 c κs = search needs
+
+enum-known-buttons : tie.Need-enum-known-buttons
+enum-known-buttons c = search needs
+
 enum-known-r-2 : tie.Need-enum-known-r-2
 enum-known-r-2 c = search needs
-
-returns : tie.Need-returns
-returns c = rw (← (c .before .before .before .before .before .before .before .before .read-number .ensures .0), c .before .before .before .before .before .before .sub .given .1, c .before .before .before .before .match2 .keys1, ← (c .before .before .before .read-number2 .ensures .0), c .before .b .given .1)
-
-returns-2 : tie.Need-returns-2
-returns-2 c = rw (← (c .before .before .before .before .before .before .before .before .read-number .ensures .0), c .before .before .before .before .before .before .sub .given .1, c .before .before .before .before .match2 .keys1, ← (c .before .before .before .read-number2 .ensures .0), c .before .r .given .1)
-
-returns-3 : tie.Need-returns-3
-returns-3 c = let k = c .match2 .rest in rw (← (c .before .before .before .before .read-number .ensures .0), c .before .before .sub .given .1, ne-eqb _ _ (k .1))
-
-returns-4 : tie.Need-returns-4
-returns-4 c = rw (← (c .before .before .before .read-number .ensures .0), c .before .r2 .given .1)
 
 pub read-spec : {M : Type 1} → statement M
 read-spec =
     tie.close
     (tie.spec
-    read-number-requires
+    read-byte-requires
     enum-known-sub
-    read-number-requires-2
-    enum-known-b
-    cast-t13
+    cast-sub
     enum-known-r
-    enum-known-r-2
     returns
+    read-byte-requires-2
+    enum-known-buttons
+    cast-t12
+    enum-known-r-2
     returns-2
     returns-3
     returns-4)

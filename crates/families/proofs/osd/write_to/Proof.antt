@@ -8,15 +8,20 @@ use borrow.Author.Needs.{needs}
 use Rattle.families.proofs.osd.write_to.Statement.{statement}
 use Rattle.families.proofs.osd.write_to.Tie as tie
 
+returns : tie.Need-returns
+returns c =
+    let at-write-with-byte = c .before .before in
+    let at-start = at-write-with-byte .before .before .before in
+    let h : at-start .args .command .buttons < 256 = search needs in
+    with-byte osdRows 0x01 (at-start .args .command .buttons) (now (at-start .args .body)) _
+    (at-write-with-byte .write-with-byte .result) refl h (at-write-with-byte .write-with-byte .ensures)
+
+-- ---- what the toolchain asks for, and finds
 write-with-byte-requires : tie.Need-write-with-byte-requires
 write-with-byte-requires c κs = search needs
 
 same-length : tie.Need-same-length
 same-length c = search needs
-
-returns : tie.Need-returns
-returns c = let h : c .before .before .before .before .before .args .command .buttons < 256 = search needs in
-    with-byte osdRows 0x01 (c .before .before .before .before .before .args .command .buttons) (now (c .before .before .before .before .before .args .body)) _ (c .before .before .write-with-byte .result) refl h (c .before .before .write-with-byte .ensures)
 
 pub write-to-spec : {M : Type 1} → statement M
 write-to-spec = tie.close (tie.spec write-with-byte-requires same-length returns)

@@ -40,7 +40,12 @@ use Rattle.families.proofs.popup.read_head.Statement as stated
 use Rattle.families.proofs.popup.read_head.Code as code
 
 abbrev answers : One
-answers = record { row = Z.the-row; ty = Z′.mir; typed = λ 𝓤 H A W x u p. EL.lawful Z.the-type Z′.the-laws 𝓤 H A W tt .typed x (u ∷ []) p .0 }
+answers = record {
+  row = Z.the-row;
+  ty = Z′.mir;
+  typed = λ 𝓤 H A W x u p. EL.lawful Z.the-type Z′.the-laws 𝓤 H A W
+      tt .typed x (u ∷ []) p .0;
+}
 
 abbrev Needed : TextRead → TextRead → NumberRead → FlagRead → Type 0
 Needed n m k l = short n × (short m × atMost 255 k)
@@ -56,12 +61,22 @@ unfolding code.routine tablesOf
 read-head-spec 𝓤 H 𝓜 𝓖 𝓡 =
     entered 𝓤 H (tripleOf 𝓤 H (𝓖 .A) own.signature (own.spec 𝓤 H (𝓖 .A) (𝓜 .mem) (𝓡 .run)))
     (tables 𝓤 H 𝓜 𝓡 code.env .C) (tables 𝓤 H 𝓜 𝓡 code.env .Λ) key.name code.function (code.unfolded 𝓤 H 𝓜 𝓡)
-    (four-meets texts texts numbers flags answers 𝓤 (λ n m k l. fact 𝓤 (Needed n m k l)) Judged H (𝓖 .A) (givenOf 𝓤 H 𝓜 𝓖) (𝓜 .mem) (𝓡 .run) text-says text-says (number-says byte 255) flag-says Says (λ s n s1 m s2 k s3 l s4 e1 e2 e3 e4. factI 𝓤 (Needed n m k l) (emp 𝓤) (text-short s n (e1 .0 .0, e1 .1), (text-short s1 m (e2 .0 .0, e2 .1), e3 .1)))
-    (λ s n s1 m s2 k s3 l s4 z e1 e2 e3 e4 f. subst (λ (x : HeadRead). (toldHead s x ≡ readItems headItems s 0) × headIn s 0 x) (sym f) (head-taken s s1 s2 s3 s4 n m k l e1 e2 e3 e4))
+    (four-meets texts texts numbers flags answers 𝓤 (λ n m k l. fact 𝓤 (Needed n m k l)) Judged H (𝓖 .A)
+    (givenOf 𝓤 H 𝓜 𝓖) (𝓜 .mem) (𝓡 .run) text-says text-says (number-says byte 255) flag-says Says
+    (λ s n s1 m s2 k s3 l s4 e1 e2 e3 e4. factI 𝓤 (Needed n m k l) (emp 𝓤)
+    (text-short s n (e1 .0 .0, e1 .1), (text-short s1 m (e2 .0 .0, e2 .1), e3 .1)))
+    (λ s n s1 m s2 k s3 l s4 z e1 e2 e3 e4 f. subst (λ (x : HeadRead). (toldHead s x ≡ readItems headItems s 0) × headIn
+    s 0 x) (sym f) (head-taken s s1 s2 s3 s4 n m k l e1 e2 e3 e4))
     (tablesOf 𝓤 H 𝓜 (tables 𝓤 H 𝓜 𝓡 code.env)) string-def.name string-def.name byte-def.name boolean-def.name judge-def.name
-    (λ κ q s. cited 𝓤 H (New 𝓤 H (𝓖 .A) (givenOf 𝓤 H 𝓜 𝓖) κ q 0 (𝓜 .mem) (𝓡 .run) s) 𝓜 𝓡 code.env new-def.name new-def.routine code.calls-codec·reader·Reader·new (new-thm.met 𝓤 H 𝓜 𝓖 𝓡))
-    (cited 𝓤 H (MethodC texts 𝓤 text-says H (𝓖 .A)) 𝓜 𝓡 code.env string-def.name string-def.routine code.calls-codec·reader·Reader·string (string-thm.met 𝓤 H 𝓜 𝓖 𝓡))
-    (cited 𝓤 H (MethodC texts 𝓤 text-says H (𝓖 .A)) 𝓜 𝓡 code.env string-def.name string-def.routine code.calls-codec·reader·Reader·string (string-thm.met 𝓤 H 𝓜 𝓖 𝓡))
-    (cited 𝓤 H (MethodC numbers 𝓤 (number-says byte 255) H (𝓖 .A)) 𝓜 𝓡 code.env byte-def.name byte-def.routine code.calls-codec·reader·Reader·byte (byte-thm.met 𝓤 H 𝓜 𝓖 𝓡))
-    (cited 𝓤 H (MethodC flags 𝓤 flag-says H (𝓖 .A)) 𝓜 𝓡 code.env boolean-def.name boolean-def.routine code.calls-codec·reader·Reader·boolean (boolean-thm.met 𝓤 H 𝓜 𝓖 𝓡))
-    (cited 𝓤 H (FourJudgeC texts texts numbers flags answers 𝓤 (λ n m k l. fact 𝓤 (Needed n m k l)) Judged H (𝓖 .A)) 𝓜 𝓡 code.env judge-def.name judge-def.routine code.calls-families·popup·head-of (judge-thm.met 𝓤 H 𝓜 𝓖 𝓡)))
+    (λ κ q s. cited 𝓤 H (New 𝓤 H (𝓖 .A) (givenOf 𝓤 H 𝓜 𝓖) κ q 0 (𝓜 .mem) (𝓡 .run) s) 𝓜 𝓡 code.env new-def.name
+    new-def.routine code.calls-codec·reader·Reader·new (new-thm.met 𝓤 H 𝓜 𝓖 𝓡))
+    (cited 𝓤 H (MethodC texts 𝓤 text-says H (𝓖 .A)) 𝓜 𝓡 code.env string-def.name string-def.routine
+    code.calls-codec·reader·Reader·string (string-thm.met 𝓤 H 𝓜 𝓖 𝓡))
+    (cited 𝓤 H (MethodC texts 𝓤 text-says H (𝓖 .A)) 𝓜 𝓡 code.env string-def.name string-def.routine
+    code.calls-codec·reader·Reader·string (string-thm.met 𝓤 H 𝓜 𝓖 𝓡))
+    (cited 𝓤 H (MethodC numbers 𝓤 (number-says byte 255) H (𝓖 .A)) 𝓜 𝓡 code.env byte-def.name byte-def.routine
+    code.calls-codec·reader·Reader·byte (byte-thm.met 𝓤 H 𝓜 𝓖 𝓡))
+    (cited 𝓤 H (MethodC flags 𝓤 flag-says H (𝓖 .A)) 𝓜 𝓡 code.env boolean-def.name boolean-def.routine
+    code.calls-codec·reader·Reader·boolean (boolean-thm.met 𝓤 H 𝓜 𝓖 𝓡))
+    (cited 𝓤 H (FourJudgeC texts texts numbers flags answers 𝓤 (λ n m k l. fact 𝓤 (Needed n m k l)) Judged H (𝓖 .A)) 𝓜 𝓡
+    code.env judge-def.name judge-def.routine code.calls-families·popup·head-of (judge-thm.met 𝓤 H 𝓜 𝓖 𝓡)))

@@ -6,6 +6,63 @@ use borrow.Author.Needs.{needs}
 use Rattle.families.proofs.popup.read_selection.Statement.{statement}
 use Rattle.families.proofs.popup.read_selection.Tie as tie
 
+add-unit-at : tie.Need-add-unit-at
+add-unit-at c =
+    let at-selected = c .before .before .before in
+    let at-take-selection = at-selected .before .before in
+    let at-start = at-take-selection .before .before .before in
+    let l = selection-fits (now (at-start .args .s)) (at-start .args .at) _ _ (at-start .pre .0) (at-selected .selected .given .1)
+    (rw (part-is (now (at-start .args .s)) (at-start .args .at)) at (at-take-selection .take-selection .ensures)) in
+    omega (arith, l)
+
+add-unit-at-2 : tie.Need-add-unit-at-2
+add-unit-at-2 c =
+    let at-selected = c .before .before .before in
+    let at-take-selection = at-selected .before .before in
+    let at-start = at-take-selection .before .before .before in
+    let l = selection-fits (now (at-start .args .s)) (at-start .args .at) _ _ (at-start .pre .0) (at-selected .selected .given .1)
+    (rw (part-is (now (at-start .args .s)) (at-start .args .at)) at (at-take-selection .take-selection .ensures)) in
+    omega (arith, l)
+
+add-t13 : tie.Need-add-t13
+add-t13 c =
+    let at-selected = c .before .before .before .before in
+    let at-take-selection = at-selected .before .before in
+    let at-start = at-take-selection .before .before .before in
+    let l = selection-fits (now (at-start .args .s)) (at-start .args .at) _ _ (at-start .pre .0) (at-selected .selected .given .1)
+    (rw (part-is (now (at-start .args .s)) (at-start .args .at)) at (at-take-selection .take-selection .ensures)) in
+    omega (arith, l)
+
+add-t17 : tie.Need-add-t17
+add-t17 c =
+    let at-selected = c .before .before .before .before in
+    let at-take-selection = at-selected .before .before in
+    let at-start = at-take-selection .before .before .before in
+    let l = selection-fits (now (at-start .args .s)) (at-start .args .at) _ _ (at-start .pre .0) (at-selected .selected .given .1)
+    (rw (part-is (now (at-start .args .s)) (at-start .args .at)) at (at-take-selection .take-selection .ensures)) in
+    omega (arith, l)
+
+returns : tie.Need-returns
+returns c =
+    let at-selected = c .before .before .before .before in
+    let at-take-selection = at-selected .before .before in
+    let at-start = at-take-selection .before .before .before in
+    selection-at (now (at-start .args .s)) (at-start .args .at) _ _ (at-start .pre .0) (at-start .pre .1)
+    (at-selected .selected .given .1) (rw (part-is (now (at-start .args .s)) (at-start .args .at))
+    at (at-take-selection .take-selection .ensures))
+
+returns-2 : tie.Need-returns-2
+returns-2 c =
+    let at-r = c .before in
+    let at-take-selection = at-r .before .before in
+    let at-start = at-take-selection .before .before .before in (
+      selection-not (now (at-start .args .s)) (at-start .args .at) _ _ (at-start .pre .0) (at-start .pre .1)
+          (at-r .r .given .1) (rw (part-is (now (at-start .args .s)) (at-start .args .at))
+          at (at-take-selection .take-selection .ensures)),
+      tt,
+    )
+
+-- ---- what the toolchain asks for, and finds
 sub-take-selection : tie.Need-sub-take-selection
 sub-take-selection c = search needs
 
@@ -18,29 +75,11 @@ part-take-selection-end c = search needs
 take-selection-requires : tie.Need-take-selection-requires
 take-selection-requires c κs = search needs
 
-enum-known-x : tie.Need-enum-known-x
-enum-known-x c = search needs
-
-add-unit-at : tie.Need-add-unit-at
-add-unit-at c = let l = selection-fits (now (c .before .before .before .before .before .before .before .before .args .s)) (c .before .before .before .before .before .before .before .before .args .at) _ _ (c .before .before .before .before .before .before .before .before .pre .0) (c .before .before .before .x .given .1) (rw (part-is (now (c .before .before .before .before .before .before .before .before .args .s)) (c .before .before .before .before .before .before .before .before .args .at)) at (c .before .before .before .before .before .take-selection .ensures)) in omega (arith, l)
-
-add-unit-at-2 : tie.Need-add-unit-at-2
-add-unit-at-2 c = let l = selection-fits (now (c .before .before .before .before .before .before .before .before .args .s)) (c .before .before .before .before .before .before .before .before .args .at) _ _ (c .before .before .before .before .before .before .before .before .pre .0) (c .before .before .before .x .given .1) (rw (part-is (now (c .before .before .before .before .before .before .before .before .args .s)) (c .before .before .before .before .before .before .before .before .args .at)) at (c .before .before .before .before .before .take-selection .ensures)) in omega (arith, l)
-
-add-t13 : tie.Need-add-t13
-add-t13 c = let l = selection-fits (now (c .before .before .before .before .before .before .before .before .before .args .s)) (c .before .before .before .before .before .before .before .before .before .args .at) _ _ (c .before .before .before .before .before .before .before .before .before .pre .0) (c .before .before .before .before .x .given .1) (rw (part-is (now (c .before .before .before .before .before .before .before .before .before .args .s)) (c .before .before .before .before .before .before .before .before .before .args .at)) at (c .before .before .before .before .before .before .take-selection .ensures)) in omega (arith, l)
-
-add-t17 : tie.Need-add-t17
-add-t17 c = let l = selection-fits (now (c .before .before .before .before .before .before .before .before .before .args .s)) (c .before .before .before .before .before .before .before .before .before .args .at) _ _ (c .before .before .before .before .before .before .before .before .before .pre .0) (c .before .before .before .before .x .given .1) (rw (part-is (now (c .before .before .before .before .before .before .before .before .before .args .s)) (c .before .before .before .before .before .before .before .before .before .args .at)) at (c .before .before .before .before .before .before .take-selection .ensures)) in omega (arith, l)
+enum-known-selected : tie.Need-enum-known-selected
+enum-known-selected c = search needs
 
 enum-known-r : tie.Need-enum-known-r
 enum-known-r c = search needs
-
-returns : tie.Need-returns
-returns c = selection-at (now (c .before .before .before .before .before .before .before .before .before .args .s)) (c .before .before .before .before .before .before .before .before .before .args .at) _ _ (c .before .before .before .before .before .before .before .before .before .pre .0) (c .before .before .before .before .before .before .before .before .before .pre .1) (c .before .before .before .before .x .given .1) (rw (part-is (now (c .before .before .before .before .before .before .before .before .before .args .s)) (c .before .before .before .before .before .before .before .before .before .args .at)) at (c .before .before .before .before .before .before .take-selection .ensures))
-
-returns-2 : tie.Need-returns-2
-returns-2 c = (selection-not (now (c .before .before .before .before .before .before .args .s)) (c .before .before .before .before .before .before .args .at) _ _ (c .before .before .before .before .before .before .pre .0) (c .before .before .before .before .before .before .pre .1) (c .before .r .given .1) (rw (part-is (now (c .before .before .before .before .before .before .args .s)) (c .before .before .before .before .before .before .args .at)) at (c .before .before .before .take-selection .ensures)), tt)
 
 pub read-selection-spec : {M : Type 1} → statement M
 read-selection-spec =
@@ -50,7 +89,7 @@ read-selection-spec =
     part-take-selection-start
     part-take-selection-end
     take-selection-requires
-    enum-known-x
+    enum-known-selected
     add-unit-at
     add-unit-at-2
     add-t13

@@ -38,7 +38,12 @@ use Rattle.families.proofs.popup.take_selection.Statement as stated
 use Rattle.families.proofs.popup.take_selection.Code as code
 
 abbrev answers : One
-answers = record { row = Z.the-row; ty = Z′.mir; typed = λ 𝓤 H A W x u p. EL.lawful Z.the-type Z′.the-laws 𝓤 H A W tt .typed x (u ∷ []) p .0 }
+answers = record {
+  row = Z.the-row;
+  ty = Z′.mir;
+  typed = λ 𝓤 H A W x u p. EL.lawful Z.the-type Z′.the-laws 𝓤 H A W
+      tt .typed x (u ∷ []) p .0;
+}
 
 abbrev Needed : TextRead → NumberRead → NumberRead → NumberRead → NumberRead → TextRead → Type 0
 Needed n m k l i j = atMost 255 m × (atMost 255 k × (atMost 255 l × atMost 255 i))
@@ -54,14 +59,30 @@ unfolding code.routine tablesOf
 take-selection-spec 𝓤 H 𝓜 𝓖 𝓡 =
     entered 𝓤 H (tripleOf 𝓤 H (𝓖 .A) own.signature (own.spec 𝓤 H (𝓖 .A) (𝓜 .mem) (𝓡 .run)))
     (tables 𝓤 H 𝓜 𝓡 code.env .C) (tables 𝓤 H 𝓜 𝓡 code.env .Λ) key.name code.function (code.unfolded 𝓤 H 𝓜 𝓡)
-    (six-meets texts numbers numbers numbers numbers texts answers 𝓤 (λ n m k l i j. fact 𝓤 (Needed n m k l i j)) Judged H (𝓖 .A) (givenOf 𝓤 H 𝓜 𝓖) (𝓜 .mem) (𝓡 .run) text-says (number-says byte 255) (number-says byte 255) (number-says byte 255) (number-says byte 255) text-says Says (λ s n s1 m s2 k s3 l s4 i s5 j s6 e1 e2 e3 e4 e5 e6. factI 𝓤 (Needed n m k l i j) (emp 𝓤) (e2 .1, (e3 .1, (e4 .1, e5 .1))))
-    (λ s n s1 m s2 k s3 l s4 i s5 j s6 z e1 e2 e3 e4 e5 e6 f. subst (λ (x : SelectedRead). (toldSelected s x ≡ readItems (textItem ∷ selectionItems) s 0) × selectedIn s x) (sym f) (selection-taken s s1 s2 s3 s4 s5 s6 n m k l i j e1 e2 e3 e4 e5 e6))
-    (tablesOf 𝓤 H 𝓜 (tables 𝓤 H 𝓜 𝓡 code.env)) string-def.name byte-def.name byte-def.name byte-def.name byte-def.name string-def.name judge-def.name
-    (λ κ q s. cited 𝓤 H (New 𝓤 H (𝓖 .A) (givenOf 𝓤 H 𝓜 𝓖) κ q 0 (𝓜 .mem) (𝓡 .run) s) 𝓜 𝓡 code.env new-def.name new-def.routine code.calls-codec·reader·Reader·new (new-thm.met 𝓤 H 𝓜 𝓖 𝓡))
-    (cited 𝓤 H (MethodC texts 𝓤 text-says H (𝓖 .A)) 𝓜 𝓡 code.env string-def.name string-def.routine code.calls-codec·reader·Reader·string (string-thm.met 𝓤 H 𝓜 𝓖 𝓡))
-    (cited 𝓤 H (MethodC numbers 𝓤 (number-says byte 255) H (𝓖 .A)) 𝓜 𝓡 code.env byte-def.name byte-def.routine code.calls-codec·reader·Reader·byte (byte-thm.met 𝓤 H 𝓜 𝓖 𝓡))
-    (cited 𝓤 H (MethodC numbers 𝓤 (number-says byte 255) H (𝓖 .A)) 𝓜 𝓡 code.env byte-def.name byte-def.routine code.calls-codec·reader·Reader·byte (byte-thm.met 𝓤 H 𝓜 𝓖 𝓡))
-    (cited 𝓤 H (MethodC numbers 𝓤 (number-says byte 255) H (𝓖 .A)) 𝓜 𝓡 code.env byte-def.name byte-def.routine code.calls-codec·reader·Reader·byte (byte-thm.met 𝓤 H 𝓜 𝓖 𝓡))
-    (cited 𝓤 H (MethodC numbers 𝓤 (number-says byte 255) H (𝓖 .A)) 𝓜 𝓡 code.env byte-def.name byte-def.routine code.calls-codec·reader·Reader·byte (byte-thm.met 𝓤 H 𝓜 𝓖 𝓡))
-    (cited 𝓤 H (MethodC texts 𝓤 text-says H (𝓖 .A)) 𝓜 𝓡 code.env string-def.name string-def.routine code.calls-codec·reader·Reader·string (string-thm.met 𝓤 H 𝓜 𝓖 𝓡))
-    (cited 𝓤 H (SixJudgeC texts numbers numbers numbers numbers texts answers 𝓤 (λ n m k l i j. fact 𝓤 (Needed n m k l i j)) Judged H (𝓖 .A)) 𝓜 𝓡 code.env judge-def.name judge-def.routine code.calls-families·popup·selection-of (judge-thm.met 𝓤 H 𝓜 𝓖 𝓡)))
+    (six-meets texts numbers numbers numbers numbers texts answers 𝓤 (λ n m k l i j. fact 𝓤 (Needed n m k l i j)) Judged
+    H (𝓖 .A) (givenOf 𝓤 H 𝓜 𝓖) (𝓜 .mem) (𝓡 .run) text-says (number-says byte 255) (number-says byte 255)
+    (number-says byte 255) (number-says byte 255) text-says Says
+    (λ s n s1 m s2 k s3 l s4 i s5 j s6 e1 e2 e3 e4 e5 e6. factI 𝓤 (Needed n m k l i j) (emp 𝓤)
+    (e2 .1, (e3 .1, (e4 .1, e5 .1))))
+    (λ s n s1 m s2 k s3 l s4 i s5 j s6 z e1 e2 e3 e4 e5 e6 f. subst
+    (λ (x : SelectedRead). (toldSelected s x ≡ readItems (textItem ∷ selectionItems) s 0) × selectedIn s x) (sym f)
+    (selection-taken s s1 s2 s3 s4 s5 s6 n m k l i j e1 e2 e3 e4 e5 e6))
+    (tablesOf 𝓤 H 𝓜 (tables 𝓤 H 𝓜 𝓡 code.env)) string-def.name byte-def.name byte-def.name byte-def.name byte-def.name
+    string-def.name judge-def.name
+    (λ κ q s. cited 𝓤 H (New 𝓤 H (𝓖 .A) (givenOf 𝓤 H 𝓜 𝓖) κ q 0 (𝓜 .mem) (𝓡 .run) s) 𝓜 𝓡 code.env new-def.name
+    new-def.routine code.calls-codec·reader·Reader·new (new-thm.met 𝓤 H 𝓜 𝓖 𝓡))
+    (cited 𝓤 H (MethodC texts 𝓤 text-says H (𝓖 .A)) 𝓜 𝓡 code.env string-def.name string-def.routine
+    code.calls-codec·reader·Reader·string (string-thm.met 𝓤 H 𝓜 𝓖 𝓡))
+    (cited 𝓤 H (MethodC numbers 𝓤 (number-says byte 255) H (𝓖 .A)) 𝓜 𝓡 code.env byte-def.name byte-def.routine
+    code.calls-codec·reader·Reader·byte (byte-thm.met 𝓤 H 𝓜 𝓖 𝓡))
+    (cited 𝓤 H (MethodC numbers 𝓤 (number-says byte 255) H (𝓖 .A)) 𝓜 𝓡 code.env byte-def.name byte-def.routine
+    code.calls-codec·reader·Reader·byte (byte-thm.met 𝓤 H 𝓜 𝓖 𝓡))
+    (cited 𝓤 H (MethodC numbers 𝓤 (number-says byte 255) H (𝓖 .A)) 𝓜 𝓡 code.env byte-def.name byte-def.routine
+    code.calls-codec·reader·Reader·byte (byte-thm.met 𝓤 H 𝓜 𝓖 𝓡))
+    (cited 𝓤 H (MethodC numbers 𝓤 (number-says byte 255) H (𝓖 .A)) 𝓜 𝓡 code.env byte-def.name byte-def.routine
+    code.calls-codec·reader·Reader·byte (byte-thm.met 𝓤 H 𝓜 𝓖 𝓡))
+    (cited 𝓤 H (MethodC texts 𝓤 text-says H (𝓖 .A)) 𝓜 𝓡 code.env string-def.name string-def.routine
+    code.calls-codec·reader·Reader·string (string-thm.met 𝓤 H 𝓜 𝓖 𝓡))
+    (cited 𝓤 H (SixJudgeC texts numbers numbers numbers numbers texts answers 𝓤
+    (λ n m k l i j. fact 𝓤 (Needed n m k l i j)) Judged H (𝓖 .A)) 𝓜 𝓡 code.env judge-def.name judge-def.routine
+    code.calls-families·popup·selection-of (judge-thm.met 𝓤 H 𝓜 𝓖 𝓡)))

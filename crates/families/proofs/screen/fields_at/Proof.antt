@@ -5,6 +5,18 @@ use borrow.Author.Needs.{needs}
 use Rattle.families.proofs.screen.fields_at.Statement.{statement}
 use Rattle.families.proofs.screen.fields_at.Tie as tie
 
+returns : tie.Need-returns
+returns c =
+    let at-text-of4 = c .before in
+    let at-text-of3 = at-text-of4 .before in
+    let at-text-of2 = at-text-of3 .before in
+    let at-text-of = at-text-of2 .before in
+    let at-start = at-text-of .before .before .before .before .before .before in
+    fields-is (now (at-start .args .s)) 0 (at-start .args .places) _ _ _ _ _ (at-start .pre) (at-text-of .text-of .ensures)
+    (at-text-of2 .text-of2 .ensures) (at-text-of3 .text-of3 .ensures) (at-text-of4 .text-of4 .ensures)
+    (c .text-of5 .ensures)
+
+-- ---- what the toolchain asks for, and finds
 text-of-requires : tie.Need-text-of-requires
 text-of-requires c κs = search needs
 
@@ -19,9 +31,6 @@ text-of-requires-4 c κs = search needs
 
 text-of-requires-5 : tie.Need-text-of-requires-5
 text-of-requires-5 c κs = search needs
-
-returns : tie.Need-returns
-returns c = fields-is (now (c .before .before .before .before .before .before .before .before .before .before .args .s)) 0 (c .before .before .before .before .before .before .before .before .before .before .args .p) _ _ _ _ _ (c .before .before .before .before .before .before .before .before .before .before .pre) (c .before .before .before .before .text-of .ensures) (c .before .before .before .text-of2 .ensures) (c .before .before .text-of3 .ensures) (c .before .text-of4 .ensures) (c .text-of5 .ensures)
 
 pub fields-at-spec : {M : Type 1} → statement M
 fields-at-spec =

@@ -1,13 +1,14 @@
 -- `screen::read` meets its contract, by the one walk of `codec`'s `Straight.antt`. Assumes nothing.
 use Prim.Native.Nat.{ℕ}
 use mathlib.Core.List.{List, [], _∷_}
-use base.Logic.{emp, id⊢}
+use base.Logic.{emp}
+use contract.Monad.{fact, factI}
 use contract.Running.{givenOf, tables, tablesOf}
 use denote.Triple.Spec.{tripleOf}
 use denote.Triple.Table.{entered, cited}
 use denote.Struct.Laws as EL
 use Rattle.codec.specs.Sheet.{byte}
-use Rattle.codec.specs.Told.{toldNumber}
+use Rattle.codec.specs.Told.{toldNumber, atMost}
 use Rattle.families.specs.Screen.{ScreenIs, readScreen, screenBehind}
 use Rattle.families.proofs.PopupBehind.{screen-taken}
 use Rattle.families.proofs.ScreenLaws.{is-by}
@@ -43,9 +44,13 @@ unfolding code.routine tablesOf
 read-spec 𝓤 H 𝓜 𝓖 𝓡 =
     entered 𝓤 H (tripleOf 𝓤 H (𝓖 .A) own.signature (own.spec 𝓤 H (𝓖 .A) (𝓜 .mem) (𝓡 .run)))
     (tables 𝓤 H 𝓜 𝓡 code.env .C) (tables 𝓤 H 𝓜 𝓡 code.env .Λ) key.name code.function (code.unfolded 𝓤 H 𝓜 𝓡)
-    (rest-meets numbers answers 𝓤 (λ _. emp 𝓤) Judged H (𝓖 .A) (givenOf 𝓤 H 𝓜 𝓖) (𝓜 .mem) (𝓡 .run) (number-says byte 255) Says (λ s n s1 e1. id⊢ 𝓤 (emp 𝓤))
+    (rest-meets numbers answers 𝓤 (λ n. fact 𝓤 (atMost 255 n)) Judged H (𝓖 .A) (givenOf 𝓤 H 𝓜 𝓖) (𝓜 .mem) (𝓡 .run)
+    (number-says byte 255) Says (λ s n s1 e1. factI 𝓤 (atMost 255 n) (emp 𝓤) (e1 .1))
     (λ s n s1 z e1 f. is-by (readScreen s) (screenBehind (toldNumber n) s1) z (screen-taken (toldNumber n) s s1 (e1 .0)) f)
     (tablesOf 𝓤 H 𝓜 (tables 𝓤 H 𝓜 𝓡 code.env)) byte-def.name judge-def.name
-    (λ κ q s. cited 𝓤 H (New 𝓤 H (𝓖 .A) (givenOf 𝓤 H 𝓜 𝓖) κ q 0 (𝓜 .mem) (𝓡 .run) s) 𝓜 𝓡 code.env new-def.name new-def.routine code.calls-codec·reader·Reader·new (new-thm.met 𝓤 H 𝓜 𝓖 𝓡))
-    (cited 𝓤 H (MethodC numbers 𝓤 (number-says byte 255) H (𝓖 .A)) 𝓜 𝓡 code.env byte-def.name byte-def.routine code.calls-codec·reader·Reader·byte (byte-thm.met 𝓤 H 𝓜 𝓖 𝓡))
-    (cited 𝓤 H (RestJudgeC numbers answers 𝓤 (λ _. emp 𝓤) Judged H (𝓖 .A)) 𝓜 𝓡 code.env judge-def.name judge-def.routine code.calls-families·screen·read-behind (judge-thm.met 𝓤 H 𝓜 𝓖 𝓡)))
+    (λ κ q s. cited 𝓤 H (New 𝓤 H (𝓖 .A) (givenOf 𝓤 H 𝓜 𝓖) κ q 0 (𝓜 .mem) (𝓡 .run) s) 𝓜 𝓡 code.env new-def.name
+    new-def.routine code.calls-codec·reader·Reader·new (new-thm.met 𝓤 H 𝓜 𝓖 𝓡))
+    (cited 𝓤 H (MethodC numbers 𝓤 (number-says byte 255) H (𝓖 .A)) 𝓜 𝓡 code.env byte-def.name byte-def.routine
+    code.calls-codec·reader·Reader·byte (byte-thm.met 𝓤 H 𝓜 𝓖 𝓡))
+    (cited 𝓤 H (RestJudgeC numbers answers 𝓤 (λ n. fact 𝓤 (atMost 255 n)) Judged H (𝓖 .A)) 𝓜 𝓡 code.env judge-def.name judge-def.routine
+    code.calls-families·screen·read-behind (judge-thm.met 𝓤 H 𝓜 𝓖 𝓡)))

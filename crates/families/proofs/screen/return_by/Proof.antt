@@ -4,14 +4,30 @@ use borrow.Author.Needs.{needs}
 use Rattle.families.proofs.screen.return_by.Statement.{statement}
 use Rattle.families.proofs.screen.return_by.Tie as tie
 
+cast-return-of : tie.Need-cast-return-of
+cast-return-of c =
+    let at-value = c .before .before .before .before in
+    let at-start = at-value .before .before in
+    let h = rw (at-value .value .given .1) at (at-start .pre) in omega arith
+
+returns : tie.Need-returns
+returns c =
+    let at-response = c .before .before in
+    let at-value = at-response .before .before .before in
+    rw (at-value .value .given .1, at-response .response .given .1) (c .return-of .ensures)
+
+returns-2 : tie.Need-returns-2
+returns-2 c =
+    let at-response2 = c .before .before in
+    let at-value = at-response2 .before .before .before in
+    rw (at-value .value .given .1, at-response2 .response2 .given .1) (c .refused-with .ensures)
+
+-- ---- what the toolchain asks for, and finds
 enum-known-value : tie.Need-enum-known-value
 enum-known-value c = search needs
 
 enum-known-response : tie.Need-enum-known-response
 enum-known-response c = search needs
-
-cast-return-of : tie.Need-cast-return-of
-cast-return-of c = let h = rw (c .before .before .before .before .value .given .1) at (c .before .before .before .before .before .before .pre) in omega arith
 
 return-of-requires : tie.Need-return-of-requires
 return-of-requires c κs = search needs
@@ -27,12 +43,6 @@ enum-known-value-2 c = search needs
 
 refused-with-requires-2 : tie.Need-refused-with-requires-2
 refused-with-requires-2 c κs = search needs
-
-returns : tie.Need-returns
-returns c = rw (c .before .before .before .before .before .value .given .1, c .before .before .response .given .1) (c .return-of .ensures)
-
-returns-2 : tie.Need-returns-2
-returns-2 c = rw (c .before .before .before .before .before .value .given .1, c .before .before .response2 .given .1) (c .refused-with .ensures)
 
 returns-3 : tie.Need-returns-3
 returns-3 c = search needs

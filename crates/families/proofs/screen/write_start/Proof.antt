@@ -7,17 +7,22 @@ use borrow.Author.Needs.{needs}
 use Rattle.families.proofs.screen.write_start.Statement.{statement}
 use Rattle.families.proofs.screen.write_start.Tie as tie
 
+returns : tie.Need-returns
+returns c =
+    let at-write-popup = c .before .before in
+    let at-if1 = at-write-popup .before .before in
+    let at-start = at-if1 .before .before .before in
+    rw (take-all (at-start .args .len) (now (at-start .args .bytes)) (at-if1 .if1 .taken)) (at-write-popup .write-popup .ensures)
+
+slice-aggregate-write-popup : tie.Need-slice-aggregate-write-popup
+slice-aggregate-write-popup c = sym (length-take-le _ _ (omega arith))
+
+-- ---- what the toolchain asks for, and finds
 write-popup-requires : tie.Need-write-popup-requires
 write-popup-requires c κs = search needs
 
 same-length : tie.Need-same-length
 same-length c = search needs
-
-returns : tie.Need-returns
-returns c = rw (take-all (c .before .before .before .before .before .before .before .args .len) (now (c .before .before .before .before .before .before .before .args .bytes)) (c .before .before .before .before .if1 .taken)) (c .before .before .write-popup .ensures)
-
-slice-aggregate-write-popup : tie.Need-slice-aggregate-write-popup
-slice-aggregate-write-popup c = sym (length-take-le _ _ (omega arith))
 
 write-popup-requires-2 : tie.Need-write-popup-requires-2
 write-popup-requires-2 c κs = search needs

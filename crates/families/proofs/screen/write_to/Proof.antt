@@ -3,6 +3,16 @@ use borrow.Author.Needs.{needs}
 use Rattle.families.proofs.screen.write_to.Statement.{statement}
 use Rattle.families.proofs.screen.write_to.Tie as tie
 
+returns : tie.Need-returns
+returns c = rw (c .before .before .before .before .enum-told .given .1) (c .before .before .write-start .ensures)
+
+returns-2 : tie.Need-returns-2
+returns-2 c =
+    let at-write-return = c .before .before in
+    let at-command = at-write-return .before .before .before in
+    rw (at-command .command .given .1) (at-write-return .write-return .ensures)
+
+-- ---- what the toolchain asks for, and finds
 enum-told : tie.Need-enum-told
 enum-told c = search needs
 
@@ -18,14 +28,8 @@ write-return-requires c κs = search needs
 same-length : tie.Need-same-length
 same-length c = search needs
 
-returns : tie.Need-returns
-returns c = rw (c .before .before .before .before .enum-told .given .1) (c .before .before .write-start .ensures)
-
 same-length-2 : tie.Need-same-length-2
 same-length-2 c = search needs
-
-returns-2 : tie.Need-returns-2
-returns-2 c = rw (c .before .before .before .before .before .command .given .1) (c .before .before .write-return .ensures)
 
 pub write-to-spec : {M : Type 1} → statement M
 write-to-spec =

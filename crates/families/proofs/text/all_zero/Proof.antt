@@ -22,6 +22,18 @@ abbrev μ-loop : tie.MeasureT-loop
 loop-holds : tie.Need-loop-holds Inv-loop μ-loop
 loop-holds c = (omega arith, refl)
 
+loop-again : tie.Need-loop-again Inv-loop μ-loop
+loop-again c = (
+  search needs,
+  c .before .before .loop .inv .1 ∙ zeros-on (now (c .before .before .before .args .s))
+      (c .before .before .loop .i) (c .before .before .loop .seen) (c .before .loop-test .taken),
+)
+
+returns : tie.Need-returns Inv-loop μ-loop
+returns c = sym (c .before .loop .inv .1 ∙ zeros-end (now (c .before .before .args .s)) (c .before .loop .i)
+    (c .before .loop .seen) (c .loop-test .left))
+
+-- ---- what the toolchain asks for, and finds
 shared-slice-read-seen : tie.Need-shared-slice-read-seen Inv-loop μ-loop
 shared-slice-read-seen c = search needs
 
@@ -30,12 +42,6 @@ add-i c = search needs
 
 loop-less : tie.Need-loop-less Inv-loop μ-loop
 loop-less c = search needs
-
-loop-again : tie.Need-loop-again Inv-loop μ-loop
-loop-again c = (search needs, c .before .before .loop .inv .1 ∙ zeros-on (now (c .before .before .before .args .s)) (c .before .before .loop .i) (c .before .before .loop .seen) (c .before .loop-test .taken))
-
-returns : tie.Need-returns Inv-loop μ-loop
-returns c = sym (c .before .loop .inv .1 ∙ zeros-end (now (c .before .before .args .s)) (c .before .loop .i) (c .before .loop .seen) (c .loop-test .left))
 
 pub all-zero-spec : {M : Type 1} → statement M
 all-zero-spec =

@@ -6,6 +6,13 @@ use borrow.Author.Needs.{needs}
 use Rattle.families.proofs.text.stored.Statement.{statement}
 use Rattle.families.proofs.text.stored.Tie as tie
 
+returns : tie.Need-returns
+returns c =
+    let at-copy = c .before in
+    let at-start = at-copy .before .before .before .before in
+    at-copy .copy .ensures .1 ∙ copied (now (at-start .args .s)) (at-start .args .at) (at-start .args .n) 55 (at-start .pre .0)
+
+-- ---- what the toolchain asks for, and finds
 add-e : tie.Need-add-e
 add-e c = search needs
 
@@ -23,9 +30,6 @@ slice-aggregate-copy c = search needs
 
 copy-requires : tie.Need-copy-requires
 copy-requires c κs = search needs
-
-returns : tie.Need-returns
-returns c = c .before .copy .ensures .1 ∙ copied (now (c .before .before .before .before .before .args .s)) (c .before .before .before .before .before .args .at) (c .before .before .before .before .before .args .n) 55 (c .before .before .before .before .before .pre .0)
 
 pub stored-spec : {M : Type 1} → statement M
 stored-spec =

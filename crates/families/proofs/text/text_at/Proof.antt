@@ -6,6 +6,15 @@ use borrow.Author.Needs.{needs}
 use Rattle.families.proofs.text.text_at.Statement.{statement}
 use Rattle.families.proofs.text.text_at.Tie as tie
 
+returns : tie.Need-returns
+returns c =
+    let at-copy = c .before in
+    let at-start = at-copy .before .before .before .before in
+    text-is (now (at-start .args .s)) _ (at-start .args .at) (at-start .args .n) (at-start .pre .0)
+    (at-copy .copy .ensures .1 ∙ copied (now (at-start .args .s)) (at-start .args .at) (at-start .args .n) 51
+    (at-start .pre .0))
+
+-- ---- what the toolchain asks for, and finds
 add-e : tie.Need-add-e
 add-e c = search needs
 
@@ -23,9 +32,6 @@ slice-aggregate-copy c = search needs
 
 copy-requires : tie.Need-copy-requires
 copy-requires c κs = search needs
-
-returns : tie.Need-returns
-returns c = text-is (now (c .before .before .before .before .before .args .s)) _ (c .before .before .before .before .before .args .at) (c .before .before .before .before .before .args .n) (c .before .before .before .before .before .pre .0) (c .before .copy .ensures .1 ∙ copied (now (c .before .before .before .before .before .args .s)) (c .before .before .before .before .before .args .at) (c .before .before .before .before .before .args .n) 51 (c .before .before .before .before .before .pre .0))
 
 pub text-at-spec : {M : Type 1} → statement M
 text-at-spec =

@@ -7,6 +7,10 @@ use borrow.Author.Needs.{needs}
 use Rattle.families.proofs.text.zero_after.Statement.{statement}
 use Rattle.families.proofs.text.zero_after.Tie as tie
 
+returns : tie.Need-returns
+returns c = c .all-zero .ensures ∙ ap zeros (rest-is (now (c .before .before .before .args .s)) (c .before .before .before .args .n))
+
+-- ---- what the toolchain asks for, and finds
 sub-all-zero : tie.Need-sub-all-zero
 sub-all-zero c = search needs
 
@@ -18,9 +22,6 @@ part-all-zero-end c = search needs
 
 all-zero-requires : tie.Need-all-zero-requires
 all-zero-requires c κs = search needs
-
-returns : tie.Need-returns
-returns c = c .all-zero .ensures ∙ ap zeros (rest-is (now (c .before .before .before .args .s)) (c .before .before .before .args .n))
 
 pub zero-after-spec : {M : Type 1} → statement M
 zero-after-spec =

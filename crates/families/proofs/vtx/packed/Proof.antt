@@ -4,6 +4,13 @@ use borrow.Author.Needs.{needs}
 use Rattle.families.proofs.vtx.packed.Statement.{statement}
 use Rattle.families.proofs.vtx.packed.Tie as tie
 
+returns : tie.Need-returns
+returns c = rw (c .if1 .taken) (omega arith)
+
+returns-2 : tie.Need-returns-2
+returns-2 c = rw (c .if1 .left) (omega arith)
+
+-- ---- what the toolchain asks for, and finds
 mul-result : tie.Need-mul-result
 mul-result c = search needs
 
@@ -24,12 +31,6 @@ mul-result-4 c = search needs
 
 add-result-3 : tie.Need-add-result-3
 add-result-3 c = search needs
-
-returns : tie.Need-returns
-returns c = rw (c .if1 .taken) (omega arith)
-
-returns-2 : tie.Need-returns-2
-returns-2 c = rw (c .if1 .left) (omega arith)
 
 pub packed-spec : {M : Type 1} → statement M
 packed-spec =

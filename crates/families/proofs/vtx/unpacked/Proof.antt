@@ -6,6 +6,10 @@ use borrow.Author.Needs.{needs}
 use Rattle.families.proofs.vtx.unpacked.Statement.{statement}
 use Rattle.families.proofs.vtx.unpacked.Tie as tie
 
+returns : tie.Need-returns
+returns c = c .enable-pit .ensures ∙ rw (bit-of (c .before .args .byte), div-one (c .before .args .byte))
+
+-- ---- what the toolchain asks for, and finds
 cast-control : tie.Need-cast-control
 cast-control c = search needs
 
@@ -14,9 +18,6 @@ cast-switch c = search needs
 
 enable-pit-requires : tie.Need-enable-pit-requires
 enable-pit-requires c κs = search needs
-
-returns : tie.Need-returns
-returns c = c .enable-pit .ensures ∙ rw (bit-of (c .before .args .byte), div-one (c .before .args .byte))
 
 pub unpacked-spec : {M : Type 1} → statement M
 unpacked-spec = tie.close (tie.spec cast-control cast-switch enable-pit-requires returns)

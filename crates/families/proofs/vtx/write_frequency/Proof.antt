@@ -13,6 +13,35 @@ use borrow.Author.Needs.{needs}
 use Rattle.families.proofs.vtx.write_frequency.Statement.{statement}
 use Rattle.families.proofs.vtx.write_frequency.Tie as tie
 
+returns : tie.Need-returns
+returns c =
+    let at-put-number = c .before .before in
+    let at-put-byte = at-put-number .before .before .before .before in
+    let at-n = at-put-byte .before .before .before in
+    let at-values-first = at-n .before .before in
+    let at-in-band = at-values-first .before in
+    let at-start = at-in-band .before .before in
+    let s = now (at-start .args .body) in
+    let f = at-start .args .f in
+    let h = rw (at-n .n .given .1) at (at-values-first .values-first .ensures) in
+    let k = item-goes (at-in-band .in-band .result) (length s) 3 0 _ h .1 .0 in
+    let p = put-start s _ (0x02 ∷ []) (omega arith) (at-put-byte .put-byte .ensures) in
+    let q = put-on s _ _ (0x02 ∷ []) (bytesOf 2 f) 1 p (at-put-number .put-number .ensures) refl k in
+    values-all vtxRows 0x02 3 _ frequency (f ∷ []) (at-in-band .in-band .result) s _ refl refl
+    (at-in-band .in-band .ensures) h (rw (alone f) q)
+
+returns-2 : tie.Need-returns-2
+returns-2 c =
+    let at-r = c .before in
+    let at-values-first = at-r .before .before in
+    let at-in-band = at-values-first .before in
+    let at-start = at-in-band .before .before in
+    let s = now (at-start .args .body) in
+    let h = rw (at-r .r .given .1) at (at-values-first .values-first .ensures) in
+    values-not vtxRows 0x02 3 frequency (at-start .args .f ∷ []) (at-in-band .in-band .result) s (at-r .r .given .0 .0)
+    refl refl (at-in-band .in-band .ensures) h
+
+-- ---- what the toolchain asks for, and finds
 in-band-requires : tie.Need-in-band-requires
 in-band-requires c κs = search needs
 
@@ -22,31 +51,17 @@ values-first-requires c κs = search needs
 enum-known-n : tie.Need-enum-known-n
 enum-known-n c = search needs
 
+put-byte-requires : tie.Need-put-byte-requires
+put-byte-requires c κs = search needs
+
 put-number-requires : tie.Need-put-number-requires
 put-number-requires c κs = search needs
-
-put-number-requires-2 : tie.Need-put-number-requires-2
-put-number-requires-2 c κs = search needs
 
 enum-known-r : tie.Need-enum-known-r
 enum-known-r c = search needs
 
 same-length : tie.Need-same-length
 same-length c = search needs
-
-returns : tie.Need-returns
-returns c = let s = now (c .before .before .before .before .before .before .before .before .before .before .before .before .before .before .args .body) in
-    let f = c .before .before .before .before .before .before .before .before .before .before .before .before .before .before .args .f in
-    let h = rw (c .before .before .before .before .before .before .before .before .before .n .given .1) at (c .before .before .before .before .before .before .before .before .before .before .before .values-first .ensures) in
-    let k = item-goes (c .before .before .before .before .before .before .before .before .before .before .before .before .in-band .result) (length s) 3 0 _ h .1 .0 in
-    let p = put-start s _ (0x02 ∷ []) (omega arith) (c .before .before .before .before .before .before .put-number .ensures) in
-    let q = put-on s _ _ (0x02 ∷ []) (bytesOf 2 f) 1 p (c .before .before .put-number2 .ensures) refl k in
-    values-all vtxRows 0x02 3 _ frequency (f ∷ []) (c .before .before .before .before .before .before .before .before .before .before .before .before .in-band .result) s _ refl refl (c .before .before .before .before .before .before .before .before .before .before .before .before .in-band .ensures) h (rw (alone f) q)
-
-returns-2 : tie.Need-returns-2
-returns-2 c = let s = now (c .before .before .before .before .before .before .args .body) in
-    let h = rw (c .before .r .given .1) at (c .before .before .before .values-first .ensures) in
-    values-not vtxRows 0x02 3 frequency (c .before .before .before .before .before .before .args .f ∷ []) (c .before .before .before .before .in-band .result) s (c .before .r .given .0 .0) refl refl (c .before .before .before .before .in-band .ensures) h
 
 pub write-frequency-spec : {M : Type 1} → statement M
 write-frequency-spec =
@@ -55,8 +70,8 @@ write-frequency-spec =
     in-band-requires
     values-first-requires
     enum-known-n
+    put-byte-requires
     put-number-requires
-    put-number-requires-2
     enum-known-r
     same-length
     returns

@@ -13,6 +13,37 @@ use borrow.Author.Needs.{needs}
 use Rattle.families.proofs.vtx.write_pit.Statement.{statement}
 use Rattle.families.proofs.vtx.write_pit.Tie as tie
 
+returns : tie.Need-returns
+returns c =
+    let at-put-number = c .before .before in
+    let at-put-byte = at-put-number .before .before .before .before in
+    let at-packed = at-put-byte .before .before in
+    let at-n = at-packed .before .before in
+    let at-values-first = at-n .before .before in
+    let at-in-bits = at-values-first .before in
+    let at-start = at-in-bits .before .before in
+    let s = now (at-start .args .body) in
+    let v = at-start .args .switch ∷ at-start .args .control ∷ bit (at-start .args .mode) ∷ [] in
+    let h = rw (at-n .n .given .1) at (at-values-first .values-first .ensures) in
+    let k = item-goes (at-in-bits .in-bits .result) (length s) 2 0 _ h .1 .0 in
+    let p = put-start s _ (0x04 ∷ []) (omega arith) (at-put-byte .put-byte .ensures) in
+    let q = put-on s _ _ (0x04 ∷ []) (bytesOf 1 (join (4 ∷ 2 ∷ 1 ∷ []) v)) 1 p
+    (rw (at-packed .packed .ensures) at (at-put-number .put-number .ensures)) refl k in
+    values-all vtxRows 0x04 2 _ pit v (at-in-bits .in-bits .result) s _ refl refl (at-in-bits .in-bits .ensures (at-start .args .mode)) h q
+
+returns-2 : tie.Need-returns-2
+returns-2 c =
+    let at-r = c .before in
+    let at-values-first = at-r .before .before in
+    let at-in-bits = at-values-first .before in
+    let at-start = at-in-bits .before .before in
+    let s = now (at-start .args .body) in
+    let v = at-start .args .switch ∷ at-start .args .control ∷ bit (at-start .args .mode) ∷ [] in
+    let h = rw (at-r .r .given .1) at (at-values-first .values-first .ensures) in
+    values-not vtxRows 0x04 2 pit v (at-in-bits .in-bits .result) s (at-r .r .given .0 .0) refl refl
+    (at-in-bits .in-bits .ensures (at-start .args .mode)) h
+
+-- ---- what the toolchain asks for, and finds
 in-bits-requires : tie.Need-in-bits-requires
 in-bits-requires c κs = search needs
 
@@ -25,32 +56,17 @@ enum-known-n c = search needs
 packed-requires : tie.Need-packed-requires
 packed-requires c κs = search needs
 
+put-byte-requires : tie.Need-put-byte-requires
+put-byte-requires c κs = search needs
+
 put-number-requires : tie.Need-put-number-requires
 put-number-requires c κs = search needs
-
-put-number-requires-2 : tie.Need-put-number-requires-2
-put-number-requires-2 c κs = search needs
 
 enum-known-r : tie.Need-enum-known-r
 enum-known-r c = search needs
 
 same-length : tie.Need-same-length
 same-length c = search needs
-
-returns : tie.Need-returns
-returns c = let s = now (c .before .before .before .before .before .before .before .before .before .before .before .before .before .before .before .args .body) in
-    let v = c .before .before .before .before .before .before .before .before .before .before .before .before .before .before .before .args .switch ∷ c .before .before .before .before .before .before .before .before .before .before .before .before .before .before .before .args .control ∷ bit (c .before .before .before .before .before .before .before .before .before .before .before .before .before .before .before .args .mode) ∷ [] in
-    let h = rw (c .before .before .before .before .before .before .before .before .before .before .n .given .1) at (c .before .before .before .before .before .before .before .before .before .before .before .before .values-first .ensures) in
-    let k = item-goes (c .before .before .before .before .before .before .before .before .before .before .before .before .before .in-bits .result) (length s) 2 0 _ h .1 .0 in
-    let p = put-start s _ (0x04 ∷ []) (omega arith) (c .before .before .before .before .before .before .put-number .ensures) in
-    let q = put-on s _ _ (0x04 ∷ []) (bytesOf 1 (join (4 ∷ 2 ∷ 1 ∷ []) v)) 1 p (rw (c .before .before .before .before .before .before .before .before .packed .ensures) at (c .before .before .put-number2 .ensures)) refl k in
-    values-all vtxRows 0x04 2 _ pit v (c .before .before .before .before .before .before .before .before .before .before .before .before .before .in-bits .result) s _ refl refl (c .before .before .before .before .before .before .before .before .before .before .before .before .before .in-bits .ensures (c .before .before .before .before .before .before .before .before .before .before .before .before .before .before .before .args .mode)) h q
-
-returns-2 : tie.Need-returns-2
-returns-2 c = let s = now (c .before .before .before .before .before .before .args .body) in
-    let v = c .before .before .before .before .before .before .args .switch ∷ c .before .before .before .before .before .before .args .control ∷ bit (c .before .before .before .before .before .before .args .mode) ∷ [] in
-    let h = rw (c .before .r .given .1) at (c .before .before .before .values-first .ensures) in
-    values-not vtxRows 0x04 2 pit v (c .before .before .before .before .in-bits .result) s (c .before .r .given .0 .0) refl refl (c .before .before .before .before .in-bits .ensures (c .before .before .before .before .before .before .args .mode)) h
 
 pub write-pit-spec : {M : Type 1} → statement M
 write-pit-spec =
@@ -60,8 +76,8 @@ write-pit-spec =
     values-first-requires
     enum-known-n
     packed-requires
+    put-byte-requires
     put-number-requires
-    put-number-requires-2
     enum-known-r
     same-length
     returns

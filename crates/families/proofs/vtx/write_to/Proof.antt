@@ -8,6 +8,42 @@ use borrow.Author.Needs.{needs}
 use Rattle.families.proofs.vtx.write_to.Statement.{statement}
 use Rattle.families.proofs.vtx.write_to.Tie as tie
 
+returns : tie.Need-returns
+returns c =
+    let at-write-frequency = c .before .before in
+    let at-command = at-write-frequency .before .before .before in
+    rw (at-command .command .given .1) (at-write-frequency .write-frequency .ensures)
+
+returns-2 : tie.Need-returns-2
+returns-2 c =
+    let at-write-pit = c .before .before in
+    let at-command2 = at-write-pit .before .before .before in
+    rw (at-command2 .command2 .given .1) (at-write-pit .write-pit .ensures)
+
+returns-3 : tie.Need-returns-3
+returns-3 c = rw (c .before .before .before .before .enum-told .given .1) (c .before .before .write-alone .ensures)
+
+returns-4 : tie.Need-returns-4
+returns-4 c =
+    let at-write-with-byte = c .before .before in
+    let at-command3 = at-write-with-byte .before .before .before in
+    let at-start = at-command3 .before .before .before in
+    let v = at-command3 .command3 .given in
+    let h : v .0 .0 < 256 = search needs in
+    rw (v .1) (with-byte-first vtxRows 0x06 (v .0 .0) (now (at-start .args .body)) _
+    (at-write-with-byte .write-with-byte .result) refl h (at-write-with-byte .write-with-byte .ensures))
+
+returns-5 : tie.Need-returns-5
+returns-5 c =
+    let at-write-with-byte2 = c .before .before in
+    let at-command4 = at-write-with-byte2 .before .before .before in
+    let at-start = at-command4 .before .before .before in
+    let v = at-command4 .command4 .given in
+    let h : v .0 .0 < 256 = search needs in
+    rw (v .1) (with-byte-first vtxRows 0x08 (v .0 .0) (now (at-start .args .body)) _
+    (at-write-with-byte2 .write-with-byte2 .result) refl h (at-write-with-byte2 .write-with-byte2 .ensures))
+
+-- ---- what the toolchain asks for, and finds
 enum-known-command : tie.Need-enum-known-command
 enum-known-command c = search needs
 
@@ -41,36 +77,17 @@ write-with-byte-requires-2 c κs = search needs
 same-length : tie.Need-same-length
 same-length c = search needs
 
-returns : tie.Need-returns
-returns c = rw (c .before .before .before .before .before .command .given .1) (c .before .before .write-frequency .ensures)
-
 same-length-2 : tie.Need-same-length-2
 same-length-2 c = search needs
-
-returns-2 : tie.Need-returns-2
-returns-2 c = rw (c .before .before .before .before .before .command2 .given .1) (c .before .before .write-pit .ensures)
 
 same-length-3 : tie.Need-same-length-3
 same-length-3 c = search needs
 
-returns-3 : tie.Need-returns-3
-returns-3 c = rw (c .before .before .before .before .enum-told .given .1) (c .before .before .write-alone .ensures)
-
 same-length-4 : tie.Need-same-length-4
 same-length-4 c = search needs
 
-returns-4 : tie.Need-returns-4
-returns-4 c = let v = c .before .before .before .before .before .command3 .given in
-    let h : v .0 .0 < 256 = search needs in
-    rw (v .1) (with-byte-first vtxRows 0x06 (v .0 .0) (now (c .before .before .before .before .before .before .before .before .args .body)) _ (c .before .before .write-with-byte .result) refl h (c .before .before .write-with-byte .ensures))
-
 same-length-5 : tie.Need-same-length-5
 same-length-5 c = search needs
-
-returns-5 : tie.Need-returns-5
-returns-5 c = let v = c .before .before .before .before .before .command4 .given in
-    let h : v .0 .0 < 256 = search needs in
-    rw (v .1) (with-byte-first vtxRows 0x08 (v .0 .0) (now (c .before .before .before .before .before .before .before .before .args .body)) _ (c .before .before .write-with-byte2 .result) refl h (c .before .before .write-with-byte2 .ensures))
 
 pub write-to-spec : {M : Type 1} → statement M
 write-to-spec =

@@ -5,6 +5,19 @@ use borrow.Author.Needs.{needs}
 use Rattle.images.proofs.fields.fields_at.Statement.{statement}
 use Rattle.images.proofs.fields.fields_at.Tie as tie
 
+returns : tie.Need-returns
+returns c =
+    let at-text-at4 = c .before .before in
+    let at-text-at3 = at-text-at4 .before .before .before .before .before in
+    let at-kind-at = at-text-at3 .before in
+    let at-text-at2 = at-kind-at .before .before .before .before in
+    let at-text-at = at-text-at2 .before in
+    let at-start = at-text-at .before .before in
+    fields-are (now (at-start .args .image)) _ _ _ _ _ _ (at-text-at .text-at .ensures) (at-text-at2 .text-at2 .ensures)
+    (at-text-at3 .text-at3 .ensures) (at-text-at4 .text-at4 .ensures) (c .text-at5 .ensures)
+    (at-kind-at .kind-at .ensures)
+
+-- ---- what the toolchain asks for, and finds
 text-at-requires : tie.Need-text-at-requires
 text-at-requires c κs = search needs
 
@@ -46,9 +59,6 @@ shared-slice-read-t23 c = search needs
 
 text-at-requires-5 : tie.Need-text-at-requires-5
 text-at-requires-5 c κs = search needs
-
-returns : tie.Need-returns
-returns c = fields-are (now (c .before .before .before .before .before .before .before .before .before .before .before .before .before .before .before .args .s)) _ _ _ _ _ _ (c .before .before .before .before .before .before .before .before .before .before .before .before .before .text-at .ensures) (c .before .before .before .before .before .before .before .before .before .before .before .before .text-at2 .ensures) (c .before .before .before .before .before .before .before .text-at3 .ensures) (c .before .before .text-at4 .ensures) (c .text-at5 .ensures) (c .before .before .before .before .before .before .before .before .kind-at .ensures)
 
 pub fields-at-spec : {M : Type 1} → statement M
 fields-at-spec =

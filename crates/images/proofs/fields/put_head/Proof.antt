@@ -1,15 +1,42 @@
 -- The first part of the image: two texts, three bytes. Assumes nothing.
+use mathlib.Core.Path.{_≡_}
+use lib.ListN.{length}
 use denote.Ref.{now}
 use Rattle.codec.specs.Told.{bit}
 use Rattle.images.specs.Fields.{kindByte}
 use Rattle.images.proofs.FieldsPut.{head-put}
+use contract.Lifetimes.{Lfts}
+use borrow.Fn.Kinds.{Dens, Plain}
 use borrow.Author.Needs.{needs}
 use Rattle.images.proofs.fields.put_head.Statement.{statement}
 use Rattle.images.proofs.fields.put_head.Tie as tie
+use Rattle.images.proofs.fields.put_head.Lts as lts
 
+-- the texts' arrays have their length
+long : {k : lts.Claims} {P : (κs : Lfts 1) → Dens κs lts.ps → Type 0}
+    {Q : (κs : Lfts 1) → Dens κs lts.ps → Plain 1 lts.ps lts.r κs} (start : lts.Start k P Q)
+    → (length (start .args .header .bytes) ≡ 51) × (length (start .args .info .bytes) ≡ 51)
+long start = (search needs, search needs)
+
+returns : tie.Need-returns
+returns c =
+    let at-put-bytes = c .before .before in
+    let at-put-text2 = at-put-bytes .before .before .before .before .before in
+    let at-put-text = at-put-text2 .before .before .before .before in
+    let at-kind-byte = at-put-text .before .before in
+    let at-bit-of = at-kind-byte .before in
+    let at-start = at-bit-of .before .before in
+    head-put (now (at-start .args .out)) (at-put-text .put-text .last .0) (at-put-text2 .put-text2 .last .0) _
+    (at-start .args .header) (at-start .args .info) (at-start .args .timeout) (bit (at-start .args .close))
+    (kindByte (at-start .args .kind)) (at-bit-of .bit-of .result) (at-kind-byte .kind-byte .result) (long at-start .0)
+    (long at-start .1) (at-start .pre) (at-put-text .put-text .ensures) (at-put-text2 .put-text2 .ensures)
+    (at-put-bytes .put-bytes .ensures) (at-bit-of .bit-of .ensures) (at-kind-byte .kind-byte .ensures)
+
+-- the rest by search
 bit-of-requires : tie.Need-bit-of-requires
 bit-of-requires c κs = search needs
 
+-- ---- what the toolchain asks for, and finds
 kind-byte-requires : tie.Need-kind-byte-requires
 kind-byte-requires c κs = search needs
 
@@ -27,9 +54,6 @@ put-bytes-requires c κs = search needs
 
 same-length : tie.Need-same-length
 same-length c = search needs
-
-returns : tie.Need-returns
-returns c = head-put (now (c .before .before .before .before .before .before .before .before .before .before .before .before .before .before .before .before .args .out)) (c .before .before .before .before .before .before .before .before .before .before .before .put-text .last .0) (c .before .before .before .before .before .before .before .put-text2 .last .0) _ (c .before .before .before .before .before .before .before .before .before .before .before .before .before .before .before .before .args .h) (c .before .before .before .before .before .before .before .before .before .before .before .before .before .before .before .before .args .i) (c .before .before .before .before .before .before .before .before .before .before .before .before .before .before .before .before .args .time) (bit (c .before .before .before .before .before .before .before .before .before .before .before .before .before .before .before .before .args .close)) (kindByte (c .before .before .before .before .before .before .before .before .before .before .before .before .before .before .before .before .args .k)) (c .before .before .before .before .before .before .before .before .before .before .before .before .before .before .bit-of .result) (c .before .before .before .before .before .before .before .before .before .before .before .before .before .kind-byte .result) (search needs) (search needs) (c .before .before .before .before .before .before .before .before .before .before .before .before .before .before .before .before .pre) (c .before .before .before .before .before .before .before .before .before .before .before .put-text .ensures) (c .before .before .before .before .before .before .before .put-text2 .ensures) (c .before .before .put-bytes .ensures) (c .before .before .before .before .before .before .before .before .before .before .before .before .before .before .bit-of .ensures) (c .before .before .before .before .before .before .before .before .before .before .before .before .before .kind-byte .ensures)
 
 pub put-head-spec : {M : Type 1} → statement M
 put-head-spec =

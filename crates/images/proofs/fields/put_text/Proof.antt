@@ -6,11 +6,12 @@ use borrow.Author.Needs.{needs}
 use Rattle.images.proofs.fields.put_text.Statement.{statement}
 use Rattle.images.proofs.fields.put_text.Tie as tie
 
+put-at-requires : tie.Need-put-at-requires
+put-at-requires c κs = let l : length (c .before .before .before .before .args .text .bytes) ≡ 51 = search needs in omega arith
+
+-- ---- what the toolchain asks for, and finds
 slice-aggregate-put-at : tie.Need-slice-aggregate-put-at
 slice-aggregate-put-at c = search needs
-
-put-at-requires : tie.Need-put-at-requires
-put-at-requires c κs = let l : length (c .before .before .before .before .args .t .bytes) ≡ 51 = search needs in omega arith
 
 same-length : tie.Need-same-length
 same-length c = search needs

@@ -9,6 +9,24 @@ use borrow.Author.Needs.{needs}
 use Rattle.images.proofs.fields.put_values.Statement.{statement}
 use Rattle.images.proofs.fields.put_values.Tie as tie
 
+same-length : tie.Need-same-length
+same-length c =
+    let at-put-text = c .before .before in
+    let at-bit-of = at-put-text .before .before in
+    let at-start = at-bit-of .before .before in
+    kept (now (at-start .args .out)) (bit (at-start .args .present) ∷ textImage (at-start .args .values)) 215
+    (values-put (now (at-start .args .out)) _ (at-start .args .values) (at-bit-of .bit-of .result)
+    (bit (at-start .args .present)) (at-bit-of .bit-of .ensures) (at-put-text .put-text .ensures))
+
+returns : tie.Need-returns
+returns c =
+    let at-put-text = c .before .before in
+    let at-bit-of = at-put-text .before .before in
+    let at-start = at-bit-of .before .before in
+    values-put (now (at-start .args .out)) _ (at-start .args .values) (at-bit-of .bit-of .result)
+    (bit (at-start .args .present)) (at-bit-of .bit-of .ensures) (at-put-text .put-text .ensures)
+
+-- ---- what the toolchain asks for, and finds
 bit-of-requires : tie.Need-bit-of-requires
 bit-of-requires c κs = search needs
 
@@ -17,12 +35,6 @@ slice-write-out c = search needs
 
 put-text-requires : tie.Need-put-text-requires
 put-text-requires c κs = search needs
-
-same-length : tie.Need-same-length
-same-length c = kept (now (c .before .before .before .before .before .before .args .out)) (bit (c .before .before .before .before .before .before .args .present) ∷ textImage (c .before .before .before .before .before .before .args .v)) 215 (values-put (now (c .before .before .before .before .before .before .args .out)) _ (c .before .before .before .before .before .before .args .v) (c .before .before .before .before .bit-of .result) (bit (c .before .before .before .before .before .before .args .present)) (c .before .before .before .before .bit-of .ensures) (c .before .before .put-text .ensures))
-
-returns : tie.Need-returns
-returns c = values-put (now (c .before .before .before .before .before .before .args .out)) _ (c .before .before .before .before .before .before .args .v) (c .before .before .before .before .bit-of .result) (bit (c .before .before .before .before .before .before .args .present)) (c .before .before .before .before .bit-of .ensures) (c .before .before .put-text .ensures)
 
 pub put-values-spec : {M : Type 1} → statement M
 put-values-spec =

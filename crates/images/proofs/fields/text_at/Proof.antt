@@ -6,11 +6,23 @@ use borrow.Author.Needs.{needs}
 use Rattle.images.proofs.fields.text_at.Statement.{statement}
 use Rattle.images.proofs.fields.text_at.Tie as tie
 
-add-a : tie.Need-add-a
-add-a c = search needs
+cast-t6 : tie.Need-cast-t6
+cast-t6 c =
+    let at-start = c .before .before .before .before .before .before in
+    omega (arith, c .shared-slice-known2 .given (at-start .args .at))
 
-add-e : tie.Need-add-e
-add-e c = search needs
+returns : tie.Need-returns
+returns c =
+    let at-copy = c .before .before in
+    let at-start = at-copy .before .before .before .before in
+    text-copied (now (at-start .args .image)) (at-start .args .at) _ (at-start .pre) (at-copy .copy .ensures .1)
+
+-- ---- what the toolchain asks for, and finds
+add-start : tie.Need-add-start
+add-start c = search needs
+
+add-end : tie.Need-add-end
+add-end c = search needs
 
 sub-copy : tie.Need-sub-copy
 sub-copy c = search needs
@@ -30,18 +42,12 @@ copy-requires c κs = search needs
 shared-slice-read-t14 : tie.Need-shared-slice-read-t14
 shared-slice-read-t14 c = search needs
 
-cast-t6 : tie.Need-cast-t6
-cast-t6 c = omega (arith, c .shared-slice-known2 .given (c .before .before .before .before .before .before .args .at))
-
-returns : tie.Need-returns
-returns c = text-copied (now (c .before .before .before .before .before .before .args .s)) (c .before .before .before .before .before .before .args .at) _ (c .before .before .before .before .before .before .pre) (c .before .before .copy .ensures .1)
-
 pub text-at-spec : {M : Type 1} → statement M
 text-at-spec =
     tie.close
     (tie.spec
-    add-a
-    add-e
+    add-start
+    add-end
     sub-copy
     part-copy-start
     part-copy-end

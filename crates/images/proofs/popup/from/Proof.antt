@@ -9,6 +9,17 @@ use Rattle.images.proofs.popup.from.Tie as tie
 returns : tie.Need-returns
 returns c = popup-none (now (c .before .before .args .image)) (c .if1 .taken)
 
+cast-t3 : tie.Need-cast-t3
+cast-t3 c = omega (arith, c .shared-slice-known2 .given 0)
+
+returns-2 : tie.Need-returns-2
+returns-2 c =
+    let at-copy = c .before .before in
+    let at-if1 = at-copy .before .before .before in
+    let at-start = at-if1 .before .before in
+    popup-got (now (at-start .args .image)) _ (at-if1 .if1 .left) (at-copy .copy .ensures .1)
+
+-- ---- what the toolchain asks for, and finds
 sub-copy : tie.Need-sub-copy
 sub-copy c = search needs
 
@@ -26,12 +37,6 @@ copy-requires c κs = search needs
 
 shared-slice-read-t17 : tie.Need-shared-slice-read-t17
 shared-slice-read-t17 c = search needs
-
-cast-t3 : tie.Need-cast-t3
-cast-t3 c = omega (arith, c .shared-slice-known2 .given 0)
-
-returns-2 : tie.Need-returns-2
-returns-2 c = popup-got (now (c .before .before .before .before .before .before .before .args .image)) _ (c .before .before .before .before .before .if1 .left) (c .before .before .copy .ensures .1)
 
 pub from-spec : {M : Type 1} → statement M
 from-spec =

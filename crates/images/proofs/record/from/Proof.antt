@@ -9,11 +9,45 @@ use borrow.Author.Needs.{needs}
 use Rattle.images.proofs.record.from.Statement.{statement}
 use Rattle.images.proofs.record.from.Tie as tie
 
+returns : tie.Need-returns
+returns c = told (recordFrom (now (c .before .before .before .args .image))) (refused 5 0) (c .not-made .result)
+    (from-other (now (c .before .before .before .args .image)) (c .before .if1 .taken)) (c .not-made .ensures)
+
+cast-t7 : tie.Need-cast-t7
+cast-t7 c = omega (arith, c .shared-slice-known4 .given 14)
+
+returns-2 : tie.Need-returns-2
+returns-2 c =
+    let at-copy = c .before .before .before .before in
+    let at-if2 = at-copy .before .before .before in
+    let at-is-laid = at-if2 .before in
+    let at-payload-at = at-is-laid .before in
+    let at-if1 = at-payload-at .before in
+    let at-shared-slice-known = at-if1 .before in
+    let at-start = at-shared-slice-known .before in
+    record-got (now (at-start .args .image)) _ (at-payload-at .payload-at .result) (at-if1 .if1 .left)
+    (at-payload-at .payload-at .ensures)
+    (from-laid (now (at-start .args .image)) (at-payload-at .payload-at .result) true (at-is-laid .is-laid .result)
+    (at-if1 .if1 .left) (omega (arith, at-shared-slice-known .shared-slice-known .given 14))
+    (at-payload-at .payload-at .ensures) (at-is-laid .is-laid .ensures) (at-if2 .if2 .taken))
+    (at-copy .copy .ensures .1)
+
+returns-3 : tie.Need-returns-3
+returns-3 c =
+    let at-if2 = c .before in
+    let at-is-laid = at-if2 .before in
+    let at-payload-at = at-is-laid .before in
+    let at-if1 = at-payload-at .before in
+    let at-shared-slice-known = at-if1 .before in
+    let at-start = at-shared-slice-known .before in
+    told (recordFrom (now (at-start .args .image))) (refused 5 0) (c .not-made2 .result)
+    (from-laid (now (at-start .args .image)) (at-payload-at .payload-at .result) false (at-is-laid .is-laid .result)
+    (at-if1 .if1 .left) (omega (arith, at-shared-slice-known .shared-slice-known .given 14))
+    (at-payload-at .payload-at .ensures) (at-is-laid .is-laid .ensures) (at-if2 .if2 .left)) (c .not-made2 .ensures)
+
+-- ---- what the toolchain asks for, and finds
 not-made-requires : tie.Need-not-made-requires
 not-made-requires c κs = search needs
-
-returns : tie.Need-returns
-returns c = told (recordFrom (now (c .before .before .before .args .image))) (refused 5 0) (c .not-made .result) (from-other (now (c .before .before .before .args .image)) (c .before .if1 .taken)) (c .not-made .ensures)
 
 payload-at-requires : tie.Need-payload-at-requires
 payload-at-requires c κs = search needs
@@ -45,17 +79,8 @@ shared-slice-read-t18 c = search needs
 shared-slice-read-t20 : tie.Need-shared-slice-read-t20
 shared-slice-read-t20 c = search needs
 
-cast-t7 : tie.Need-cast-t7
-cast-t7 c = omega (arith, c .shared-slice-known4 .given 14)
-
-returns-2 : tie.Need-returns-2
-returns-2 c = record-got (now (c .before .before .before .before .before .before .before .before .before .before .before .before .args .image)) _ (c .before .before .before .before .before .before .before .before .before .payload-at .result) (c .before .before .before .before .before .before .before .before .before .before .if1 .left) (c .before .before .before .before .before .before .before .before .before .payload-at .ensures) (from-laid (now (c .before .before .before .before .before .before .before .before .before .before .before .before .args .image)) (c .before .before .before .before .before .before .before .before .before .payload-at .result) true (c .before .before .before .before .before .before .before .before .is-laid .result) (c .before .before .before .before .before .before .before .before .before .before .if1 .left) (omega (arith, c .before .before .before .before .before .before .before .before .before .before .before .shared-slice-known .given 14)) (c .before .before .before .before .before .before .before .before .before .payload-at .ensures) (c .before .before .before .before .before .before .before .before .is-laid .ensures) (c .before .before .before .before .before .before .before .if2 .taken)) (c .before .before .before .before .copy .ensures .1)
-
 not-made-requires-2 : tie.Need-not-made-requires-2
 not-made-requires-2 c κs = search needs
-
-returns-3 : tie.Need-returns-3
-returns-3 c = told (recordFrom (now (c .before .before .before .before .before .before .args .image))) (refused 5 0) (c .not-made2 .result) (from-laid (now (c .before .before .before .before .before .before .args .image)) (c .before .before .before .payload-at .result) false (c .before .before .is-laid .result) (c .before .before .before .before .if1 .left) (omega (arith, c .before .before .before .before .before .shared-slice-known .given 14)) (c .before .before .before .payload-at .ensures) (c .before .before .is-laid .ensures) (c .before .if2 .left)) (c .not-made2 .ensures)
 
 pub from-spec : {M : Type 1} → statement M
 from-spec =

@@ -5,14 +5,27 @@ use borrow.Author.Needs.{needs}
 use Rattle.images.proofs.record.is_laid.Statement.{statement}
 use Rattle.images.proofs.record.is_laid.Tie as tie
 
+returns : tie.Need-returns
+returns c = id-differs (now (c .before .before .before .before .args .image))
+    (c .before .before .before .before .args .payload) (c .before .before .command-id .result)
+    (c .before .before .before .before .pre) (c .before .before .command-id .ensures) (c .if1 .taken)
+
+returns-2 : tie.Need-returns-2
+returns-2 c =
+    let at-payload-laid = c .before .before .before in
+    let at-if1 = at-payload-laid .before in
+    let at-command-id = at-if1 .before .before in
+    let at-start = at-command-id .before .before in
+    values-decide (now (at-start .args .image)) (at-payload-laid .payload-laid .result) (at-start .args .payload)
+    (at-command-id .command-id .result) _ (at-start .pre) (at-command-id .command-id .ensures) (at-if1 .if1 .left)
+    (at-payload-laid .payload-laid .ensures) (c .same-bytes .ensures)
+
+-- ---- what the toolchain asks for, and finds
 command-id-requires : tie.Need-command-id-requires
 command-id-requires c κs = search needs
 
 shared-slice-read-if1 : tie.Need-shared-slice-read-if1
 shared-slice-read-if1 c = search needs
-
-returns : tie.Need-returns
-returns c = id-differs (now (c .before .before .before .before .args .image)) (c .before .before .before .before .args .payload) (c .before .before .command-id .result) (c .before .before .before .before .pre) (c .before .before .command-id .ensures) (c .if1 .taken)
 
 payload-laid-requires : tie.Need-payload-laid-requires
 payload-laid-requires c κs = search needs
@@ -31,9 +44,6 @@ part-same-bytes-end c = search needs
 
 same-bytes-requires : tie.Need-same-bytes-requires
 same-bytes-requires c κs = search needs
-
-returns-2 : tie.Need-returns-2
-returns-2 c = values-decide (now (c .before .before .before .before .before .before .before .before .args .image)) (c .before .before .before .payload-laid .result) (c .before .before .before .before .before .before .before .before .args .payload) (c .before .before .before .before .before .before .command-id .result) _ (c .before .before .before .before .before .before .before .before .pre) (c .before .before .before .before .before .before .command-id .ensures) (c .before .before .before .before .if1 .left) (c .before .before .before .payload-laid .ensures) (c .same-bytes .ensures)
 
 pub is-laid-spec : {M : Type 1} → statement M
 is-laid-spec =

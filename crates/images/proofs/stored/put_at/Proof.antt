@@ -7,6 +7,22 @@ use borrow.Author.Needs.{needs}
 use Rattle.images.proofs.stored.put_at.Statement.{statement}
 use Rattle.images.proofs.stored.put_at.Tie as tie
 
+same-length : tie.Need-same-length
+same-length c =
+    let at-put-bytes = c .before .before in
+    let at-start = at-put-bytes .before .before .before .before in
+    kept (now (at-start .args .out)) (stored (at-start .args .len) (now (at-start .args .bytes))) (at-start .args .at)
+    (stored-put (now (at-start .args .out)) _ (now (at-start .args .bytes)) (at-start .args .at) (at-start .args .len)
+    (at-start .pre) (at-put-bytes .put-bytes .ensures))
+
+returns : tie.Need-returns
+returns c =
+    let at-put-bytes = c .before .before in
+    let at-start = at-put-bytes .before .before .before .before in
+    stored-put (now (at-start .args .out)) _ (now (at-start .args .bytes)) (at-start .args .at) (at-start .args .len)
+    (at-start .pre) (at-put-bytes .put-bytes .ensures)
+
+-- ---- what the toolchain asks for, and finds
 cast-out : tie.Need-cast-out
 cast-out c = search needs
 
@@ -18,12 +34,6 @@ add-put-bytes c = search needs
 
 put-bytes-requires : tie.Need-put-bytes-requires
 put-bytes-requires c κs = search needs
-
-same-length : tie.Need-same-length
-same-length c = kept (now (c .before .before .before .before .before .before .args .out)) (stored (c .before .before .before .before .before .before .args .n) (now (c .before .before .before .before .before .before .args .b))) (c .before .before .before .before .before .before .args .at) (stored-put (now (c .before .before .before .before .before .before .args .out)) _ (now (c .before .before .before .before .before .before .args .b)) (c .before .before .before .before .before .before .args .at) (c .before .before .before .before .before .before .args .n) (c .before .before .before .before .before .before .pre) (c .before .before .put-bytes .ensures))
-
-returns : tie.Need-returns
-returns c = stored-put (now (c .before .before .before .before .before .before .args .out)) _ (now (c .before .before .before .before .before .before .args .b)) (c .before .before .before .before .before .before .args .at) (c .before .before .before .before .before .before .args .n) (c .before .before .before .before .before .before .pre) (c .before .before .put-bytes .ensures)
 
 pub put-at-spec : {M : Type 1} → statement M
 put-at-spec =

@@ -3,6 +3,10 @@ use borrow.Author.Needs.{needs}
 use Rattle.images.proofs.values.color_at.Statement.{statement}
 use Rattle.images.proofs.values.color_at.Tie as tie
 
+returns : tie.Need-returns
+returns c = rw (c .before .before .word-at .ensures)
+
+-- ---- what the toolchain asks for, and finds
 word-at-requires : tie.Need-word-at-requires
 word-at-requires c κs = search needs
 
@@ -17,9 +21,6 @@ add-t7 c = search needs
 
 shared-slice-read-t9 : tie.Need-shared-slice-read-t9
 shared-slice-read-t9 c = search needs
-
-returns : tie.Need-returns
-returns c = rw (c .before .before .word-at .ensures)
 
 pub color-at-spec : {M : Type 1} → statement M
 color-at-spec =

@@ -4,15 +4,6 @@ use borrow.Author.Needs.{needs}
 use Rattle.images.proofs.values.crossfire_at.Statement.{statement}
 use Rattle.images.proofs.values.crossfire_at.Tie as tie
 
-shared-slice-read-match : tie.Need-shared-slice-read-match
-shared-slice-read-match c = search needs
-
-shared-slice-read-t7 : tie.Need-shared-slice-read-t7
-shared-slice-read-t7 c = search needs
-
-shared-slice-read-t9 : tie.Need-shared-slice-read-t9
-shared-slice-read-t9 c = search needs
-
 returns : tie.Need-returns
 returns c = rw (c .match .keys1)
 
@@ -41,7 +32,21 @@ returns-9 : tie.Need-returns-9
 returns-9 c = rw (c .match .keys9)
 
 returns-10 : tie.Need-returns-10
-returns-10 c = let k = c .match .rest in rw (ne-eqb _ _ (k .0 .0 .0 .0 .0 .0 .0 .0 .1), ne-eqb _ _ (k .0 .0 .0 .0 .0 .0 .0 .1), ne-eqb _ _ (k .0 .0 .0 .0 .0 .0 .1), ne-eqb _ _ (k .0 .0 .0 .0 .0 .1), ne-eqb _ _ (k .0 .0 .0 .0 .1), ne-eqb _ _ (k .0 .0 .0 .1), ne-eqb _ _ (k .0 .0 .1), ne-eqb _ _ (k .0 .1), ne-eqb _ _ (k .1))
+returns-10 c =
+    let k = c .match .rest in
+    let k5 = k .0 .0 .0 .0 .0 in
+    rw (ne-eqb _ _ (k5 .0 .0 .0 .1), ne-eqb _ _ (k5 .0 .0 .1), ne-eqb _ _ (k5 .0 .1), ne-eqb _ _ (k5 .1))
+    (rw (ne-eqb _ _ (k .0 .0 .0 .0 .1), ne-eqb _ _ (k .0 .0 .0 .1), ne-eqb _ _ (k .0 .0 .1), ne-eqb _ _ (k .0 .1), ne-eqb _ _ (k .1)))
+
+-- ---- what the toolchain asks for, and finds
+shared-slice-read-match : tie.Need-shared-slice-read-match
+shared-slice-read-match c = search needs
+
+shared-slice-read-t7 : tie.Need-shared-slice-read-t7
+shared-slice-read-t7 c = search needs
+
+shared-slice-read-t9 : tie.Need-shared-slice-read-t9
+shared-slice-read-t9 c = search needs
 
 pub crossfire-at-spec : {M : Type 1} → statement M
 crossfire-at-spec =

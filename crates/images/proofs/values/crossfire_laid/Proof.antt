@@ -3,6 +3,37 @@ use borrow.Author.Needs.{needs}
 use Rattle.images.proofs.values.crossfire_laid.Statement.{statement}
 use Rattle.images.proofs.values.crossfire_laid.Tie as tie
 
+returns : tie.Need-returns
+returns c = rw (c .before .enum-told .given .1) (c .alone .ensures)
+
+returns-2 : tie.Need-returns-2
+returns-2 c = rw (c .before .enum-told2 .given .1) (c .alone2 .ensures)
+
+returns-3 : tie.Need-returns-3
+returns-3 c = rw (c .before .enum-told3 .given .1) (c .alone3 .ensures)
+
+returns-4 : tie.Need-returns-4
+returns-4 c = rw (c .before .before .command .given .1) (c .with-byte .ensures)
+
+returns-5 : tie.Need-returns-5
+returns-5 c = rw (c .before .enum-told4 .given .1) (c .alone4 .ensures)
+
+returns-6 : tie.Need-returns-6
+returns-6 c = rw (c .before .before .command2 .given .1) (c .with-byte2 .ensures)
+
+returns-7 : tie.Need-returns-7
+returns-7 c = rw (c .before .enum-told5 .given .1) (c .alone5 .ensures)
+
+returns-8 : tie.Need-returns-8
+returns-8 c = rw (c .before .enum-told6 .given .1) (c .alone6 .ensures)
+
+returns-9 : tie.Need-returns-9
+returns-9 c = rw (c .before .enum-told7 .given .1) (c .alone7 .ensures)
+
+returns-10 : tie.Need-returns-10
+returns-10 c = rw (c .before .enum-told8 .given .1) (c .alone8 .ensures)
+
+-- ---- what the toolchain asks for, and finds
 enum-told : tie.Need-enum-told
 enum-told c = search needs
 
@@ -21,8 +52,8 @@ enum-told-3 c = search needs
 alone-requires-3 : tie.Need-alone-requires-3
 alone-requires-3 c κs = search needs
 
-enum-known-c : tie.Need-enum-known-c
-enum-known-c c = search needs
+enum-known-command : tie.Need-enum-known-command
+enum-known-command c = search needs
 
 with-byte-requires : tie.Need-with-byte-requires
 with-byte-requires c κs = search needs
@@ -33,8 +64,8 @@ enum-told-4 c = search needs
 alone-requires-4 : tie.Need-alone-requires-4
 alone-requires-4 c κs = search needs
 
-enum-known-c-2 : tie.Need-enum-known-c-2
-enum-known-c-2 c = search needs
+enum-known-command-2 : tie.Need-enum-known-command-2
+enum-known-command-2 c = search needs
 
 with-byte-requires-2 : tie.Need-with-byte-requires-2
 with-byte-requires-2 c κs = search needs
@@ -63,36 +94,6 @@ enum-told-8 c = search needs
 alone-requires-8 : tie.Need-alone-requires-8
 alone-requires-8 c κs = search needs
 
-returns : tie.Need-returns
-returns c = rw (c .before .enum-told .given .1) (c .alone .ensures)
-
-returns-2 : tie.Need-returns-2
-returns-2 c = rw (c .before .enum-told2 .given .1) (c .alone2 .ensures)
-
-returns-3 : tie.Need-returns-3
-returns-3 c = rw (c .before .enum-told3 .given .1) (c .alone3 .ensures)
-
-returns-4 : tie.Need-returns-4
-returns-4 c = rw (c .before .before .c .given .1) (c .with-byte .ensures)
-
-returns-5 : tie.Need-returns-5
-returns-5 c = rw (c .before .enum-told4 .given .1) (c .alone4 .ensures)
-
-returns-6 : tie.Need-returns-6
-returns-6 c = rw (c .before .before .c2 .given .1) (c .with-byte2 .ensures)
-
-returns-7 : tie.Need-returns-7
-returns-7 c = rw (c .before .enum-told5 .given .1) (c .alone5 .ensures)
-
-returns-8 : tie.Need-returns-8
-returns-8 c = rw (c .before .enum-told6 .given .1) (c .alone6 .ensures)
-
-returns-9 : tie.Need-returns-9
-returns-9 c = rw (c .before .enum-told7 .given .1) (c .alone7 .ensures)
-
-returns-10 : tie.Need-returns-10
-returns-10 c = rw (c .before .enum-told8 .given .1) (c .alone8 .ensures)
-
 pub crossfire-laid-spec : {M : Type 1} → statement M
 crossfire-laid-spec =
     tie.close
@@ -103,11 +104,11 @@ crossfire-laid-spec =
     alone-requires-2
     enum-told-3
     alone-requires-3
-    enum-known-c
+    enum-known-command
     with-byte-requires
     enum-told-4
     alone-requires-4
-    enum-known-c-2
+    enum-known-command-2
     with-byte-requires-2
     enum-told-5
     alone-requires-5

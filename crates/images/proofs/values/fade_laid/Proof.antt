@@ -3,11 +3,28 @@ use borrow.Author.Needs.{needs}
 use Rattle.images.proofs.values.fade_laid.Statement.{statement}
 use Rattle.images.proofs.values.fade_laid.Tie as tie
 
-cast-a : tie.Need-cast-a
-cast-a c = search needs
+returns : tie.Need-returns
+returns c =
+    let at-digit5 = c .before in
+    let at-digit4 = at-digit5 .before in
+    let at-digit3 = at-digit4 .before in
+    let at-digit2 = at-digit3 .before in
+    let at-digit = at-digit2 .before in
+    rw (
+      at-digit .digit .ensures,
+      at-digit2 .digit2 .ensures,
+      at-digit3 .digit3 .ensures,
+      at-digit4 .digit4 .ensures,
+      at-digit5 .digit5 .ensures,
+      c .digit6 .ensures,
+    )
 
-cast-b : tie.Need-cast-b
-cast-b c = search needs
+-- ---- what the toolchain asks for, and finds
+cast-start-hue : tie.Need-cast-start-hue
+cast-start-hue c = search needs
+
+cast-stop-hue : tie.Need-cast-stop-hue
+cast-stop-hue c = search needs
 
 digit-requires : tie.Need-digit-requires
 digit-requires c κs = search needs
@@ -27,15 +44,12 @@ digit-requires-5 c κs = search needs
 digit-requires-6 : tie.Need-digit-requires-6
 digit-requires-6 c κs = search needs
 
-returns : tie.Need-returns
-returns c = rw (c .before .before .before .before .before .digit .ensures, c .before .before .before .before .digit2 .ensures, c .before .before .before .digit3 .ensures, c .before .before .digit4 .ensures, c .before .digit5 .ensures, c .digit6 .ensures)
-
 pub fade-laid-spec : {M : Type 1} → statement M
 fade-laid-spec =
     tie.close
     (tie.spec
-    cast-a
-    cast-b
+    cast-start-hue
+    cast-stop-hue
     digit-requires
     digit-requires-2
     digit-requires-3

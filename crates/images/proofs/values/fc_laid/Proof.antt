@@ -3,6 +3,13 @@ use borrow.Author.Needs.{needs}
 use Rattle.images.proofs.values.fc_laid.Statement.{statement}
 use Rattle.images.proofs.values.fc_laid.Tie as tie
 
+returns : tie.Need-returns
+returns c = rw (c .before .enum-told .given .1) (c .alone .ensures)
+
+returns-2 : tie.Need-returns-2
+returns-2 c = rw (c .before .enum-told2 .given .1) (c .alone2 .ensures)
+
+-- ---- what the toolchain asks for, and finds
 enum-told : tie.Need-enum-told
 enum-told c = search needs
 
@@ -14,12 +21,6 @@ enum-told-2 c = search needs
 
 alone-requires-2 : tie.Need-alone-requires-2
 alone-requires-2 c κs = search needs
-
-returns : tie.Need-returns
-returns c = rw (c .before .enum-told .given .1) (c .alone .ensures)
-
-returns-2 : tie.Need-returns-2
-returns-2 c = rw (c .before .enum-told2 .given .1) (c .alone2 .ensures)
 
 pub fc-laid-spec : {M : Type 1} → statement M
 fc-laid-spec =

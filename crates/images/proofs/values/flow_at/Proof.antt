@@ -4,6 +4,13 @@ use borrow.Author.Needs.{needs}
 use Rattle.images.proofs.values.flow_at.Statement.{statement}
 use Rattle.images.proofs.values.flow_at.Tie as tie
 
+returns : tie.Need-returns
+returns c = rw (c .before .before .match .keys1, c .word-at .ensures)
+
+returns-2 : tie.Need-returns-2
+returns-2 c = let k = c .before .match .rest in rw (ne-eqb _ _ (k .1))
+
+-- ---- what the toolchain asks for, and finds
 shared-slice-read-match : tie.Need-shared-slice-read-match
 shared-slice-read-match c = search needs
 
@@ -15,12 +22,6 @@ word-at-requires c κs = search needs
 
 shared-slice-read-t10 : tie.Need-shared-slice-read-t10
 shared-slice-read-t10 c = search needs
-
-returns : tie.Need-returns
-returns c = rw (c .before .before .match .keys1, c .word-at .ensures)
-
-returns-2 : tie.Need-returns-2
-returns-2 c = let k = c .before .match .rest in rw (ne-eqb _ _ (k .1))
 
 pub flow-at-spec : {M : Type 1} → statement M
 flow-at-spec =

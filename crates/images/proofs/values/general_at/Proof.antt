@@ -4,6 +4,13 @@ use borrow.Author.Needs.{needs}
 use Rattle.images.proofs.values.general_at.Statement.{statement}
 use Rattle.images.proofs.values.general_at.Tie as tie
 
+returns : tie.Need-returns
+returns c = rw (c .before .before .match .keys1, c .long-at .ensures)
+
+returns-2 : tie.Need-returns-2
+returns-2 c = let k = c .before .before .match .rest in rw (ne-eqb _ _ (k .1))
+
+-- ---- what the toolchain asks for, and finds
 shared-slice-read-match : tie.Need-shared-slice-read-match
 shared-slice-read-match c = search needs
 
@@ -18,12 +25,6 @@ shared-slice-read-t10 c = search needs
 
 shared-slice-read-t12 : tie.Need-shared-slice-read-t12
 shared-slice-read-t12 c = search needs
-
-returns : tie.Need-returns
-returns c = rw (c .before .before .match .keys1, c .long-at .ensures)
-
-returns-2 : tie.Need-returns-2
-returns-2 c = let k = c .before .before .match .rest in rw (ne-eqb _ _ (k .1))
 
 pub general-at-spec : {M : Type 1} → statement M
 general-at-spec =

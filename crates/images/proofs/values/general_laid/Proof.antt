@@ -3,14 +3,21 @@ use borrow.Author.Needs.{needs}
 use Rattle.images.proofs.values.general_laid.Statement.{statement}
 use Rattle.images.proofs.values.general_laid.Tie as tie
 
-enum-known-c : tie.Need-enum-known-c
-enum-known-c c = search needs
+returns : tie.Need-returns
+returns c = rw (c .before .before .command .given .1) (c .proposal-laid .ensures)
+
+returns-2 : tie.Need-returns-2
+returns-2 c = rw (c .before .before .before .command2 .given .1) (rw (c .before .bit-of .ensures) at (c .with-three .ensures))
+
+-- ---- what the toolchain asks for, and finds
+enum-known-command : tie.Need-enum-known-command
+enum-known-command c = search needs
 
 proposal-laid-requires : tie.Need-proposal-laid-requires
 proposal-laid-requires c κs = search needs
 
-enum-known-c-2 : tie.Need-enum-known-c-2
-enum-known-c-2 c = search needs
+enum-known-command-2 : tie.Need-enum-known-command-2
+enum-known-command-2 c = search needs
 
 bit-of-requires : tie.Need-bit-of-requires
 bit-of-requires c κs = search needs
@@ -18,19 +25,13 @@ bit-of-requires c κs = search needs
 with-three-requires : tie.Need-with-three-requires
 with-three-requires c κs = search needs
 
-returns : tie.Need-returns
-returns c = rw (c .before .before .c .given .1) (c .proposal-laid .ensures)
-
-returns-2 : tie.Need-returns-2
-returns-2 c = rw (c .before .before .before .c2 .given .1) (rw (c .before .bit-of .ensures) at (c .with-three .ensures))
-
 pub general-laid-spec : {M : Type 1} → statement M
 general-laid-spec =
     tie.close
     (tie.spec
-    enum-known-c
+    enum-known-command
     proposal-laid-requires
-    enum-known-c-2
+    enum-known-command-2
     bit-of-requires
     with-three-requires
     returns

@@ -4,6 +4,43 @@ use borrow.Author.Needs.{needs}
 use Rattle.images.proofs.values.payload_laid.Statement.{statement}
 use Rattle.images.proofs.values.payload_laid.Tie as tie
 
+returns : tie.Need-returns
+unfolding payloadLaid
+returns c = rw (c .before .before .payload .given .1) (c .fc-laid .ensures)
+
+returns-2 : tie.Need-returns-2
+unfolding payloadLaid
+returns-2 c = rw (c .before .before .payload2 .given .1) (c .with-byte .ensures)
+
+returns-3 : tie.Need-returns-3
+unfolding payloadLaid
+returns-3 c = rw (c .before .before .payload3 .given .1) (c .vtx-laid .ensures)
+
+returns-4 : tie.Need-returns-4
+unfolding payloadLaid
+returns-4 c = rw (c .before .before .payload4 .given .1) (c .led-laid .ensures)
+
+returns-5 : tie.Need-returns-5
+unfolding payloadLaid
+returns-5 c = rw (c .before .before .payload5 .given .1) (c .general-laid .ensures)
+
+returns-6 : tie.Need-returns-6
+unfolding payloadLaid
+returns-6 c = rw (c .before .before .payload6 .given .1) (c .crossfire-laid .ensures)
+
+returns-7 : tie.Need-returns-7
+unfolding payloadLaid
+returns-7 c = rw (c .before .before .payload7 .given .1) (c .flow-laid .ensures)
+
+returns-8 : tie.Need-returns-8
+unfolding payloadLaid
+returns-8 c = rw (c .before .before .payload8 .given .1) (c .screen-laid .ensures)
+
+returns-9 : tie.Need-returns-9
+unfolding payloadLaid
+returns-9 c = rw (c .before .before .payload9 .given .1) (c .ack-laid .ensures)
+
+-- ---- what the toolchain asks for, and finds
 enum-known-payload : tie.Need-enum-known-payload
 enum-known-payload c = search needs
 
@@ -57,42 +94,6 @@ enum-known-payload-9 c = search needs
 
 ack-laid-requires : tie.Need-ack-laid-requires
 ack-laid-requires c κs = search needs
-
-returns : tie.Need-returns
-unfolding payloadLaid
-returns c = rw (c .before .before .payload .given .1) (c .fc-laid .ensures)
-
-returns-2 : tie.Need-returns-2
-unfolding payloadLaid
-returns-2 c = rw (c .before .before .payload2 .given .1) (c .with-byte .ensures)
-
-returns-3 : tie.Need-returns-3
-unfolding payloadLaid
-returns-3 c = rw (c .before .before .payload3 .given .1) (c .vtx-laid .ensures)
-
-returns-4 : tie.Need-returns-4
-unfolding payloadLaid
-returns-4 c = rw (c .before .before .payload4 .given .1) (c .led-laid .ensures)
-
-returns-5 : tie.Need-returns-5
-unfolding payloadLaid
-returns-5 c = rw (c .before .before .payload5 .given .1) (c .general-laid .ensures)
-
-returns-6 : tie.Need-returns-6
-unfolding payloadLaid
-returns-6 c = rw (c .before .before .payload6 .given .1) (c .crossfire-laid .ensures)
-
-returns-7 : tie.Need-returns-7
-unfolding payloadLaid
-returns-7 c = rw (c .before .before .payload7 .given .1) (c .flow-laid .ensures)
-
-returns-8 : tie.Need-returns-8
-unfolding payloadLaid
-returns-8 c = rw (c .before .before .payload8 .given .1) (c .screen-laid .ensures)
-
-returns-9 : tie.Need-returns-9
-unfolding payloadLaid
-returns-9 c = rw (c .before .before .payload9 .given .1) (c .ack-laid .ensures)
 
 pub payload-laid-spec : {M : Type 1} → statement M
 payload-laid-spec =

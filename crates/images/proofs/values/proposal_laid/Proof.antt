@@ -3,6 +3,15 @@ use borrow.Author.Needs.{needs}
 use Rattle.images.proofs.values.proposal_laid.Statement.{statement}
 use Rattle.images.proofs.values.proposal_laid.Tie as tie
 
+returns : tie.Need-returns
+returns c = rw (
+  c .before .before .before .digit .ensures,
+  c .before .before .digit2 .ensures,
+  c .before .digit3 .ensures,
+  c .digit4 .ensures,
+)
+
+-- ---- what the toolchain asks for, and finds
 digit-requires : tie.Need-digit-requires
 digit-requires c κs = search needs
 
@@ -14,9 +23,6 @@ digit-requires-3 c κs = search needs
 
 digit-requires-4 : tie.Need-digit-requires-4
 digit-requires-4 c κs = search needs
-
-returns : tie.Need-returns
-returns c = rw (c .before .before .before .digit .ensures, c .before .before .digit2 .ensures, c .before .digit3 .ensures, c .digit4 .ensures)
 
 pub proposal-laid-spec : {M : Type 1} → statement M
 proposal-laid-spec =

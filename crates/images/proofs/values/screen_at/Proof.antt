@@ -4,6 +4,13 @@ use borrow.Author.Needs.{needs}
 use Rattle.images.proofs.values.screen_at.Statement.{statement}
 use Rattle.images.proofs.values.screen_at.Tie as tie
 
+returns : tie.Need-returns
+returns c = rw (c .match .keys1)
+
+returns-2 : tie.Need-returns-2
+returns-2 c = let k = c .before .before .match .rest in rw (ne-eqb _ _ (k .1))
+
+-- ---- what the toolchain asks for, and finds
 shared-slice-read-match : tie.Need-shared-slice-read-match
 shared-slice-read-match c = search needs
 
@@ -12,12 +19,6 @@ shared-slice-read-t7 c = search needs
 
 shared-slice-read-t9 : tie.Need-shared-slice-read-t9
 shared-slice-read-t9 c = search needs
-
-returns : tie.Need-returns
-returns c = rw (c .match .keys1)
-
-returns-2 : tie.Need-returns-2
-returns-2 c = let k = c .before .before .match .rest in rw (ne-eqb _ _ (k .1))
 
 pub screen-at-spec : {M : Type 1} → statement M
 screen-at-spec =

@@ -3,6 +3,10 @@ use borrow.Author.Needs.{needs}
 use Rattle.images.proofs.values.subscribe_laid.Statement.{statement}
 use Rattle.images.proofs.values.subscribe_laid.Tie as tie
 
+returns : tie.Need-returns
+returns c = rw (c .before .before .digit .ensures, c .before .digit2 .ensures) at (c .with-three .ensures)
+
+-- ---- what the toolchain asks for, and finds
 digit-requires : tie.Need-digit-requires
 digit-requires c κs = search needs
 
@@ -11,9 +15,6 @@ digit-requires-2 c κs = search needs
 
 with-three-requires : tie.Need-with-three-requires
 with-three-requires c κs = search needs
-
-returns : tie.Need-returns
-returns c = rw (c .before .before .digit .ensures, c .before .digit2 .ensures) at (c .with-three .ensures)
 
 pub subscribe-laid-spec : {M : Type 1} → statement M
 subscribe-laid-spec =

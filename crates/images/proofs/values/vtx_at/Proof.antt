@@ -4,6 +4,27 @@ use borrow.Author.Needs.{needs}
 use Rattle.images.proofs.values.vtx_at.Statement.{statement}
 use Rattle.images.proofs.values.vtx_at.Tie as tie
 
+returns : tie.Need-returns
+returns c = rw (c .before .match .keys1, c .word-at .ensures)
+
+returns-2 : tie.Need-returns-2
+returns-2 c = rw (c .before .before .before .match .keys2)
+
+returns-3 : tie.Need-returns-3
+returns-3 c = rw (c .match .keys3)
+
+returns-4 : tie.Need-returns-4
+returns-4 c = rw (c .before .match .keys4)
+
+returns-5 : tie.Need-returns-5
+returns-5 c = let k = c .before .match .rest in rw (
+  ne-eqb _ _ (k .0 .0 .0 .1),
+  ne-eqb _ _ (k .0 .0 .1),
+  ne-eqb _ _ (k .0 .1),
+  ne-eqb _ _ (k .1),
+)
+
+-- ---- what the toolchain asks for, and finds
 shared-slice-read-match : tie.Need-shared-slice-read-match
 shared-slice-read-match c = search needs
 
@@ -24,21 +45,6 @@ shared-slice-read-t15 c = search needs
 
 shared-slice-read-t17 : tie.Need-shared-slice-read-t17
 shared-slice-read-t17 c = search needs
-
-returns : tie.Need-returns
-returns c = rw (c .before .match .keys1, c .word-at .ensures)
-
-returns-2 : tie.Need-returns-2
-returns-2 c = rw (c .before .before .before .match .keys2)
-
-returns-3 : tie.Need-returns-3
-returns-3 c = rw (c .match .keys3)
-
-returns-4 : tie.Need-returns-4
-returns-4 c = rw (c .before .match .keys4)
-
-returns-5 : tie.Need-returns-5
-returns-5 c = let k = c .before .match .rest in rw (ne-eqb _ _ (k .0 .0 .0 .1), ne-eqb _ _ (k .0 .0 .1), ne-eqb _ _ (k .0 .1), ne-eqb _ _ (k .1))
 
 pub vtx-at-spec : {M : Type 1} → statement M
 vtx-at-spec =

@@ -1,15 +1,32 @@
 -- `Listing::go_on` meets its contract. Assumes nothing.
 use native.Mathlib.Omega.{arith}
-use Prim.Native.Nat.{ℕ, _+_, _-_}
-use mathlib.Core.Path.{_≡_, refl, ap}
+use mathlib.Core.Path.{refl}
 use denote.Ref.{now}
-use lib.ListN.{length, take, drop, length-drop}
-use lib.Seq.{take-all}
 use Rattle.listing.proofs.StepLaws.{made-none, made-line}
 use borrow.Author.Needs.{needs}
 use Rattle.listing.proofs.Listing.go_on.Statement.{statement}
 use Rattle.listing.proofs.Listing.go_on.Tie as tie
 
+returns : tie.Need-returns
+returns c =
+    let at-if1 = c .before .before in
+    let given = at-if1 .before .before .before .args in
+    made-none (given .self) (given .self) _ (now (given .input)) (given .at) refl (c .keep .ensures) (at-if1 .if1 .taken)
+
+add-fresh : tie.Need-add-fresh
+add-fresh c =
+    let at-start = c .before .before .before .before in
+    omega (arith, at-start .pre .1 .0)
+
+returns-2 : tie.Need-returns-2
+returns-2 c =
+    let at-fresh = c .before .before in
+    let at-if1 = at-fresh .before .before in
+    let given = at-if1 .before .before .before .args in
+    made-line (given .self) _ _ (now (given .input)) (given .at) _ (at-fresh .fresh .ensures) refl (c .join .ensures)
+    (omega (arith, at-if1 .if1 .left))
+
+-- ---- what the toolchain asks for, and finds
 sub-left : tie.Need-sub-left
 sub-left c = search needs
 
@@ -28,14 +45,8 @@ part-keep-end c = search needs
 keep-requires : tie.Need-keep-requires
 keep-requires c κs = search needs
 
-returns : tie.Need-returns
-returns c = made-none (c .before .before .before .before .before .args .self) (c .before .before .before .before .before .args .self) _ (now (c .before .before .before .before .before .args .input)) (take (length (now (c .before .before .before .before .before .args .input)) - c .before .before .before .before .before .args .at) (drop (c .before .before .before .before .before .args .at) (now (c .before .before .before .before .before .args .input)))) (c .before .before .before .before .before .args .at) refl (c .keep .ensures) (take-all (length (now (c .before .before .before .before .before .args .input)) - c .before .before .before .before .before .args .at) (drop (c .before .before .before .before .before .args .at) (now (c .before .before .before .before .before .args .input))) (rw length-drop (omega arith))) (c .before .before .if1 .taken)
-
 add-end : tie.Need-add-end
 add-end c = search needs
-
-add-fresh : tie.Need-add-fresh
-add-fresh c = omega (arith, c .before .before .before .before .pre .1 .0)
 
 fresh-requires : tie.Need-fresh-requires
 fresh-requires c κs = search needs
@@ -51,11 +62,6 @@ part-join-end c = search needs
 
 join-requires : tie.Need-join-requires
 join-requires c κs = search needs
-
-returns-2 : tie.Need-returns-2
-returns-2 c = let n = c .before .before .before .before .before .before .before .args .self .wanted - c .before .before .before .before .before .before .before .args .self .held in
-    let k : c .before .before .before .before .before .before .before .args .at + n - c .before .before .before .before .before .before .before .args .at ≡ n = omega arith in
-    made-line (c .before .before .before .before .before .before .before .args .self) _ _ (now (c .before .before .before .before .before .before .before .args .input)) (take (c .before .before .before .before .before .before .before .args .at + n - c .before .before .before .before .before .before .before .args .at) (drop (c .before .before .before .before .before .before .before .args .at) (now (c .before .before .before .before .before .before .before .args .input)))) (c .before .before .before .before .before .before .before .args .at) _ (c .before .before .fresh .ensures) refl (c .join .ensures) (ap (λ (m : ℕ). take m (drop (c .before .before .before .before .before .before .before .args .at) (now (c .before .before .before .before .before .before .before .args .input)))) k) (omega (arith, c .before .before .before .before .if1 .left))
 
 pub go-on-spec : {M : Type 1} → statement M
 go-on-spec =

@@ -5,16 +5,41 @@ use lib.Seq.{length-take-le}
 use Rattle.codec.proofs.Writes.{length-put}
 use denote.Ref.{now}
 use lib.ListN.{length}
+use Rattle.listing.specs.Step.{mostKept}
 use Rattle.listing.proofs.StepLaws.{line-long, line-joined}
 use borrow.Author.Needs.{needs}
 use Rattle.listing.proofs.Listing.join.Statement.{statement}
 use Rattle.listing.proofs.Listing.join.Tie as tie
 
+returns : tie.Need-returns
+returns c =
+    let at-if1 = c .before in
+    let given = at-if1 .before .before .args in
+    line-long (given .self) (now (given .part)) _ (at-if1 .if1 .taken) (c .number .ensures)
+
+slice-aggregate-line-of : tie.Need-slice-aggregate-line-of
+slice-aggregate-line-of c =
+    let at-put-bytes = c .before .before in
+    let at-start = at-put-bytes .before .before .before .before .before in
+    let state = at-start .args .self in
+    let kept = at-put-bytes .put-bytes .last .0 in
+    let room : length (state .bytes) ≡ mostKept = search needs in
+    let same : length kept ≡ mostKept =
+    ap length (at-put-bytes .put-bytes .ensures) ∙ length-put (state .bytes) (state .held) (now (at-start .args .part)) ∙ room in
+    sym (length-take-le (state .wanted) kept (omega arith))
+
+returns-2 : tie.Need-returns-2
+returns-2 c =
+    let at-put-bytes = c .before .before .before in
+    let at-if1 = at-put-bytes .before .before .before in
+    let at-start = at-if1 .before .before in
+    let room : length (at-start .args .self .bytes) ≡ mostKept = search needs in
+    line-joined (at-start .args .self) (now (at-start .args .part)) _ _ (at-if1 .if1 .left) room (at-start .pre)
+    (at-put-bytes .put-bytes .ensures) (c .line-of .ensures)
+
+-- ---- what the toolchain asks for, and finds
 number-requires : tie.Need-number-requires
 number-requires c κs = search needs
-
-returns : tie.Need-returns
-returns c = line-long (c .before .before .before .args .self) (now (c .before .before .before .args .part)) _ (c .before .if1 .taken) (c .number .ensures)
 
 slice-aggregate-put-bytes : tie.Need-slice-aggregate-put-bytes
 slice-aggregate-put-bytes c = search needs
@@ -25,16 +50,8 @@ put-bytes-requires c κs = search needs
 array-share-prefix-kept : tie.Need-array-share-prefix-kept
 array-share-prefix-kept c = search needs
 
-slice-aggregate-line-of : tie.Need-slice-aggregate-line-of
-slice-aggregate-line-of c = let l : length (c .before .before .before .before .before .before .before .args .self .bytes) ≡ 60 = search needs in
-    let k : length (c .before .before .put-bytes .last .0) ≡ 60 = ap length (c .before .before .put-bytes .ensures) ∙ length-put (c .before .before .before .before .before .before .before .args .self .bytes) (c .before .before .before .before .before .before .before .args .self .held) (now (c .before .before .before .before .before .before .before .args .part)) ∙ l in
-    sym (length-take-le (c .before .before .before .before .before .before .before .args .self .wanted) (c .before .before .put-bytes .last .0) (omega arith))
-
 line-of-requires : tie.Need-line-of-requires
 line-of-requires c κs = search needs
-
-returns-2 : tie.Need-returns-2
-returns-2 c = let l : length (c .before .before .before .before .before .before .before .before .args .self .bytes) ≡ 60 = search needs in line-joined (c .before .before .before .before .before .before .before .before .args .self) (now (c .before .before .before .before .before .before .before .before .args .part)) _ _ (c .before .before .before .before .before .before .if1 .left) l (c .before .before .before .before .before .before .before .before .pre) (c .before .before .before .put-bytes .ensures) (c .line-of .ensures)
 
 pub join-spec : {M : Type 1} → statement M
 join-spec =

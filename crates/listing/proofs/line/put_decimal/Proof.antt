@@ -1,50 +1,60 @@
--- `line::put_decimal` meets its contract. Assumes nothing.
-use mathlib.Core.Path.{subst, _≡_, sym, _∙_}
-use Prim.Native.Nat.{_+_, _/_, _%_, ℕ, _-_}
-use lib.ListN.{length-set, drop, set}
-use Rattle.listing.specs.Text.{decimal}
+-- `line::put_decimal` meets its contract: the loop keeps `Digits`. Assumes nothing.
+use mathlib.Core.Path.{_∙_}
+use Prim.Native.Nat.{_-_}
 use native.Mathlib.Omega.{arith}
-use mathlib.Core.List.{_++_}
 use denote.Ref.{now}
+use lib.ListN.{length-set}
 use Rattle.listing.proofs.TextLaws.{Digits, digits-start, digits-turn, digits-end}
 use Rattle.listing.proofs.line.put_decimal.Statement.{statement}
 use Rattle.listing.proofs.line.put_decimal.Tie as tie
 
 abbrev Inv-loop : tie.InvT-loop
-Inv-loop text₀ at n i₀ rest₀ text i rest = Digits at n text₀ i text rest
+Inv-loop text₀ at number start₀ rest₀ text start rest = Digits at number text₀ start text rest
 
 abbrev μ-loop : tie.MeasureT-loop
-μ-loop text₀ at n i₀ rest₀ text i rest = rest
+μ-loop text₀ at number start₀ rest₀ text start rest = rest
 
 loop-holds : tie.Need-loop-holds Inv-loop μ-loop
-loop-holds c = digits-start (c .before .args .at) (c .before .args .n) (now (c .before .args .text)) (omega arith)
+loop-holds c =
+    let given = c .before .args in
+    digits-start (given .at) (given .number) (now (given .text)) (omega arith)
 
-sub-i : tie.Need-sub-i Inv-loop μ-loop
-sub-i c = omega (arith, c .loop .inv .0 .0 .1)
+sub-start : tie.Need-sub-start Inv-loop μ-loop
+sub-start c = omega (arith, c .loop .inv .near)
 
 digit-requires : tie.Need-digit-requires Inv-loop μ-loop
 digit-requires c κs = omega arith
 
 slice-write-text : tie.Need-slice-write-text Inv-loop μ-loop
-slice-write-text c = omega (arith, c .before .loop .inv .0 .0 .0, c .before .loop .inv .0 .0 .1, c .before .loop .inv .0 .1)
+slice-write-text c =
+    let kept = c .before .loop .inv in
+    omega (arith, kept .before, kept .near, kept .same)
 
 same-length : tie.Need-same-length Inv-loop μ-loop
-same-length c = length-set (c .before .before .loop .text) (c .before .before .loop .i - 1) (c .before .digit .result) ∙ c .before .before .loop .inv .0 .1
+same-length c =
+    let at-digit = c .before in
+    let round = at-digit .before .loop in
+    length-set (round .text) (round .start - 1) (at-digit .digit .result) ∙ round .inv .same
 
 returns : tie.Need-returns Inv-loop μ-loop
-returns c = let i = c .before .before .loop .i in let s = c .before .before .loop .text in let r = c .before .before .loop .rest in
-    let h : drop (i - 1) (set s (i - 1) (48 + r % 10)) ≡ decimal (c .before .before .before .before .args .n) ++ drop (c .before .before .before .before .args .at) (now (c .before .before .before .before .args .text)) = digits-end (c .before .before .before .before .args .at) (c .before .before .before .before .args .n) i r (now (c .before .before .before .before .args .text)) s (omega arith) (omega arith) (c .before .before .loop .inv) (c .if1 .taken) in (
-      (omega (arith, c .before .before .loop .inv .0 .0 .1), omega (arith, c .before .before .loop .inv .0 .0 .0, c .before .before .loop .inv .0 .0 .1)),
-      subst (λ (b : ℕ). drop (i - 1) (set s (i - 1) b) ≡ decimal (c .before .before .before .before .args .n) ++ drop (c .before .before .before .before .args .at) (now (c .before .before .before .before .args .text))) (sym (c .before .digit .ensures)) h,
+returns c =
+    let at-digit = c .before in
+    let at-loop = at-digit .before in
+    let at-start = at-loop .before .before in
+    let kept = at-loop .loop .inv in (
+      (omega (arith, kept .near), omega (arith, kept .before, kept .near)),
+      digits-end (at-start .pre .0) (at-start .pre .1) kept _ (at-digit .digit .ensures) (c .if1 .taken),
     )
 
 loop-less : tie.Need-loop-less Inv-loop μ-loop
 loop-less c = omega arith
 
 loop-again : tie.Need-loop-again Inv-loop μ-loop
-loop-again c = let i = c .before .before .loop .i in let s = c .before .before .loop .text in let r = c .before .before .loop .rest in
-    subst (λ (b : ℕ). Digits (c .before .before .before .before .args .at) (c .before .before .before .before .args .n) (now (c .before .before .before .before .args .text)) (i - 1) (set s (i - 1) b) (r / 10)) (sym (c .before .digit .ensures))
-    (digits-turn (c .before .before .before .before .args .at) (c .before .before .before .before .args .n) i r (now (c .before .before .before .before .args .text)) s (omega arith) (omega arith) (c .before .before .loop .inv) (c .if1 .left))
+loop-again c =
+    let at-digit = c .before in
+    let at-loop = at-digit .before in
+    let at-start = at-loop .before .before in
+    digits-turn (at-start .pre .0) (at-start .pre .1) (at-loop .loop .inv) _ (at-digit .digit .ensures) (c .if1 .left)
 
 pub put-decimal-spec : {M : Type 1} → statement M
 put-decimal-spec =
@@ -53,7 +63,7 @@ put-decimal-spec =
     Inv-loop
     μ-loop
     loop-holds
-    sub-i
+    sub-start
     digit-requires
     slice-write-text
     same-length

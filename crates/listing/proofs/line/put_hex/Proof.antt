@@ -3,6 +3,17 @@ use borrow.Author.Needs.{needs}
 use Rattle.listing.proofs.line.put_hex.Statement.{statement}
 use Rattle.listing.proofs.line.put_hex.Tie as tie
 
+returns : tie.Need-returns
+returns c =
+    let at-put-word = c .before .before in
+    let at-hex-digit2 = at-put-word .before .before .before in
+    let at-hex-digit = at-hex-digit2 .before in (
+      at-put-word .put-word .ensures .0,
+      rw (at-hex-digit .hex-digit .ensures, at-hex-digit2 .hex-digit2 .ensures)
+          at (at-put-word .put-word .ensures .1),
+    )
+
+-- ---- what the toolchain asks for, and finds
 hex-digit-requires : tie.Need-hex-digit-requires
 hex-digit-requires c κs = search needs
 
@@ -17,9 +28,6 @@ put-word-requires c κs = search needs
 
 same-length : tie.Need-same-length
 same-length c = search needs
-
-returns : tie.Need-returns
-returns c = (c .before .before .put-word .ensures .0, rw (c .before .before .before .before .before .before .hex-digit .ensures, c .before .before .before .before .before .hex-digit2 .ensures) at (c .before .before .put-word .ensures .1))
 
 pub put-hex-spec : {M : Type 1} → statement M
 put-hex-spec =

@@ -1,45 +1,28 @@
 -- `line::put_last` meets its contract. Assumes nothing.
 use native.Mathlib.Omega.{arith}
-use mathlib.Core.List.{List, _++_}
-use mathlib.Core.Path.{ap, _∙_}
-use Prim.Native.Nat.{ℕ}
 use denote.Ref.{now}
-use lib.ListN.{drop-of-length-le}
-use Rattle.listing.specs.Text.{decimal, newline}
+use Rattle.listing.proofs.TextLaws.{in-front}
 use borrow.Author.Needs.{needs}
 use Rattle.listing.proofs.line.put_last.Statement.{statement}
 use Rattle.listing.proofs.line.put_last.Tie as tie
 
-slice-aggregate-put-word : tie.Need-slice-aggregate-put-word
-slice-aggregate-put-word c = search needs
+returns : tie.Need-returns
+returns c =
+    let at-put-word = c .before .before in
+    let at-put-end = at-put-word .before .before .before .before in
+    let given = at-put-end .before .before .before .before .args in
+    (omega arith, in-front (now (given .word)) (at-put-word .put-word .ensures .1) (at-put-end .put-end .ensures .1 .1))
 
+-- what is left
+put-end-requires : tie.Need-put-end-requires
+put-end-requires c κs = search needs
+
+-- ---- what the toolchain asks for, and finds
 put-word-requires : tie.Need-put-word-requires
 put-word-requires c κs = search needs
-
-put-decimal-requires : tie.Need-put-decimal-requires
-put-decimal-requires c κs = search needs
-
-put-word-requires-2 : tie.Need-put-word-requires-2
-put-word-requires-2 c κs = search needs
 
 same-length : tie.Need-same-length
 same-length c = search needs
 
-returns : tie.Need-returns
-returns c = (
-  omega arith,
-  c .before .before .put-word2 .ensures .1 ∙ ap (λ (x : List ℕ). now (c .before .before .before .before .before .before .before .before .before .before .before .before .before .before .before .args .word) ++ x)
-      (c .before .before .before .before .before .before .put-decimal .ensures .1 ∙ ap (λ (x : List ℕ). decimal (c .before .before .before .before .before .before .before .before .before .before .before .before .before .before .before .args .count) ++ x)
-      (c .before .before .before .before .before .before .before .before .before .before .put-word .ensures .1 ∙ ap (λ (x : List ℕ). newline ++ x) (drop-of-length-le (now (c .before .before .before .before .before .before .before .before .before .before .before .before .before .before .before .args .text)) {i = 64} (omega (arith, c .before .before .before .before .before .before .before .before .before .before .before .before .before .before .before .pre .0))))),
-)
-
 pub put-last-spec : {M : Type 1} → statement M
-put-last-spec =
-    tie.close
-    (tie.spec
-    slice-aggregate-put-word
-    put-word-requires
-    put-decimal-requires
-    put-word-requires-2
-    same-length
-    returns)
+put-last-spec = tie.close (tie.spec put-end-requires put-word-requires same-length returns)

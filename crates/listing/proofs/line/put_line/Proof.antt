@@ -3,6 +3,31 @@ use borrow.Author.Needs.{needs}
 use Rattle.listing.proofs.line.put_line.Statement.{statement}
 use Rattle.listing.proofs.line.put_line.Tie as tie
 
+returns : tie.Need-returns
+returns c =
+    let at-put-read = c .before .before in
+    let at-line = at-put-read .before .before .before in
+    rw (at-line .line .given .1) (at-put-read .put-read .ensures)
+
+returns-2 : tie.Need-returns-2
+returns-2 c =
+    let at-put-refused = c .before .before in
+    let at-line2 = at-put-refused .before .before .before in
+    rw (at-line2 .line2 .given .1) (at-put-refused .put-refused .ensures)
+
+returns-3 : tie.Need-returns-3
+returns-3 c =
+    let at-put-last = c .before .before in
+    let at-line3 = at-put-last .before .before .before .before in
+    rw (at-line3 .line3 .given .1) (at-put-last .put-last .ensures)
+
+returns-4 : tie.Need-returns-4
+returns-4 c =
+    let at-put-last2 = c .before .before in
+    let at-line4 = at-put-last2 .before .before .before .before in
+    rw (at-line4 .line4 .given .1) (at-put-last2 .put-last2 .ensures)
+
+-- ---- what the toolchain asks for, and finds
 enum-known-line : tie.Need-enum-known-line
 enum-known-line c = search needs
 
@@ -36,26 +61,14 @@ put-last-requires-2 c κs = search needs
 same-length : tie.Need-same-length
 same-length c = search needs
 
-returns : tie.Need-returns
-returns c = rw (c .before .before .before .before .before .line .given .1) (c .before .before .put-read .ensures)
-
 same-length-2 : tie.Need-same-length-2
 same-length-2 c = search needs
-
-returns-2 : tie.Need-returns-2
-returns-2 c = rw (c .before .before .before .before .before .line2 .given .1) (c .before .before .put-refused .ensures)
 
 same-length-3 : tie.Need-same-length-3
 same-length-3 c = search needs
 
-returns-3 : tie.Need-returns-3
-returns-3 c = rw (c .before .before .before .before .before .before .line3 .given .1) (c .before .before .put-last .ensures)
-
 same-length-4 : tie.Need-same-length-4
 same-length-4 c = search needs
-
-returns-4 : tie.Need-returns-4
-returns-4 c = rw (c .before .before .before .before .before .before .line4 .given .1) (c .before .before .put-last2 .ensures)
 
 pub put-line-spec : {M : Type 1} → statement M
 put-line-spec =

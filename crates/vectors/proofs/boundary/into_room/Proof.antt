@@ -5,14 +5,15 @@ use borrow.Author.Needs.{needs}
 use Rattle.vectors.proofs.boundary.into_room.Statement.{statement}
 use Rattle.vectors.proofs.boundary.into_room.Tie as tie
 
+slice-aggregate-crsf-write : tie.Need-slice-aggregate-crsf-write
+slice-aggregate-crsf-write c = sym (length-take-le _ _ (search needs))
+
+-- ---- what the toolchain asks for, and finds
 returns : tie.Need-returns
 returns c = search needs
 
 slice-relend-prefix-crsf-write : tie.Need-slice-relend-prefix-crsf-write
 slice-relend-prefix-crsf-write c = search needs
-
-slice-aggregate-crsf-write : tie.Need-slice-aggregate-crsf-write
-slice-aggregate-crsf-write c = sym (length-take-le _ _ (search needs))
 
 crsf-write-requires : tie.Need-crsf-write-requires
 crsf-write-requires c κs = search needs

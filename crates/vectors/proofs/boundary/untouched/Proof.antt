@@ -11,6 +11,7 @@ Inv-loop s from i₀ i = Unit {0}
 abbrev μ-loop : tie.MeasureT-loop
 μ-loop s from i₀ i = length s - i
 
+-- ---- what the toolchain asks for, and finds
 loop-holds : tie.Need-loop-holds Inv-loop μ-loop
 loop-holds c = search needs
 

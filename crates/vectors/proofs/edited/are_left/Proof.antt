@@ -5,6 +5,10 @@ use borrow.Author.Needs.{needs}
 use Rattle.vectors.proofs.edited.are_left.Statement.{statement}
 use Rattle.vectors.proofs.edited.are_left.Tie as tie
 
+slice-aggregate-is-image : tie.Need-slice-aggregate-is-image
+slice-aggregate-is-image c = sym (length-take-le _ _ (search needs))
+
+-- ---- what the toolchain asks for, and finds
 returns : tie.Need-returns
 returns c = search needs
 
@@ -16,9 +20,6 @@ returns-2 c = search needs
 
 add-is-image : tie.Need-add-is-image
 add-is-image c = search needs
-
-slice-aggregate-is-image : tie.Need-slice-aggregate-is-image
-slice-aggregate-is-image c = sym (length-take-le _ _ (search needs))
 
 is-image-requires : tie.Need-is-image-requires
 is-image-requires c κs = search needs

@@ -5,6 +5,13 @@ use borrow.Author.Needs.{needs}
 use Rattle.vectors.proofs.edited.edit_all_in.Statement.{statement}
 use Rattle.vectors.proofs.edited.edit_all_in.Tie as tie
 
+slice-aggregate-crsf-edit-list : tie.Need-slice-aggregate-crsf-edit-list
+slice-aggregate-crsf-edit-list c = sym (length-take-le _ _ (search needs))
+
+slice-aggregate-crsf-edit-list-2 : tie.Need-slice-aggregate-crsf-edit-list-2
+slice-aggregate-crsf-edit-list-2 c = sym (length-take-le _ _ (search needs))
+
+-- ---- what the toolchain asks for, and finds
 returns : tie.Need-returns
 returns c = search needs
 
@@ -14,14 +21,8 @@ copy-requires c κs = search needs
 slice-relend-prefix-crsf-edit-list : tie.Need-slice-relend-prefix-crsf-edit-list
 slice-relend-prefix-crsf-edit-list c = search needs
 
-slice-aggregate-crsf-edit-list : tie.Need-slice-aggregate-crsf-edit-list
-slice-aggregate-crsf-edit-list c = sym (length-take-le _ _ (search needs))
-
 slice-relend-prefix-crsf-edit-list-2 : tie.Need-slice-relend-prefix-crsf-edit-list-2
 slice-relend-prefix-crsf-edit-list-2 c = search needs
-
-slice-aggregate-crsf-edit-list-2 : tie.Need-slice-aggregate-crsf-edit-list-2
-slice-aggregate-crsf-edit-list-2 c = sym (length-take-le _ _ (search needs))
 
 crsf-edit-list-requires : tie.Need-crsf-edit-list-requires
 crsf-edit-list-requires c κs = search needs

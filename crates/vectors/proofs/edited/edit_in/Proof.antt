@@ -5,6 +5,10 @@ use borrow.Author.Needs.{needs}
 use Rattle.vectors.proofs.edited.edit_in.Statement.{statement}
 use Rattle.vectors.proofs.edited.edit_in.Tie as tie
 
+slice-aggregate-crsf-edit : tie.Need-slice-aggregate-crsf-edit
+slice-aggregate-crsf-edit c = sym (length-take-le _ _ (search needs))
+
+-- ---- what the toolchain asks for, and finds
 returns : tie.Need-returns
 returns c = search needs
 
@@ -13,9 +17,6 @@ copy-requires c κs = search needs
 
 slice-relend-prefix-crsf-edit : tie.Need-slice-relend-prefix-crsf-edit
 slice-relend-prefix-crsf-edit c = search needs
-
-slice-aggregate-crsf-edit : tie.Need-slice-aggregate-crsf-edit
-slice-aggregate-crsf-edit c = sym (length-take-le _ _ (search needs))
 
 crsf-edit-requires : tie.Need-crsf-edit-requires
 crsf-edit-requires c κs = search needs

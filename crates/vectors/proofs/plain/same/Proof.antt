@@ -10,6 +10,7 @@ Inv-loop s from t start n i₀ i = Unit {0}
 abbrev μ-loop : tie.MeasureT-loop
 μ-loop s from t start n i₀ i = n - i
 
+-- ---- what the toolchain asks for, and finds
 returns : tie.Need-returns Inv-loop μ-loop
 returns c = search needs
 

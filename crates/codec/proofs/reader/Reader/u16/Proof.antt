@@ -34,6 +34,10 @@ unfolding code.routine tablesOf
 u16-spec 𝓤 H 𝓜 𝓖 𝓡 =
     entered 𝓤 H (tripleOf 𝓤 H (𝓖 .A) u16.signature (u16.spec 𝓤 H (𝓖 .A) (𝓜 .mem) (𝓡 .run)))
     (tables 𝓤 H 𝓜 𝓡 code.env .C) (tables 𝓤 H 𝓜 𝓡 code.env .Λ) key.name code.function (code.unfolded 𝓤 H 𝓜 𝓡)
-    (takes-meets numbers 𝓤 First Behind (number-says item 65535) H (𝓖 .A) (EL.makes Y.the-type Y′.the-plain 𝓤 H (𝓖 .A)) (givenOf 𝓤 H 𝓜 𝓖) (λ s r t e f. ((e .0, f), e .1)) (tablesOf 𝓤 H 𝓜 (tables 𝓤 H 𝓜 𝓡 code.env)) first-def.name behind-def.name
-    (cited 𝓤 H (FirstC numbers 𝓤 First H (𝓖 .A)) 𝓜 𝓡 code.env first-def.name first-def.routine code.calls-codec·reader·first-u16 (first-thm.met 𝓤 H 𝓜 𝓖 𝓡))
-    (cited 𝓤 H (BehindC numbers 𝓤 Behind H (𝓖 .A)) 𝓜 𝓡 code.env behind-def.name behind-def.routine code.calls-codec·reader·behind-u16 (behind-thm.met 𝓤 H 𝓜 𝓖 𝓡)))
+    (takes-meets numbers 𝓤 First Behind (number-says item 65535) H (𝓖 .A) (EL.makes Y.the-type Y′.the-plain 𝓤 H (𝓖 .A))
+    (givenOf 𝓤 H 𝓜 𝓖) (λ s r t e f. ((e .0, f), e .1)) (tablesOf 𝓤 H 𝓜 (tables 𝓤 H 𝓜 𝓡 code.env)) first-def.name
+    behind-def.name
+    (cited 𝓤 H (FirstC numbers 𝓤 First H (𝓖 .A)) 𝓜 𝓡 code.env first-def.name first-def.routine
+    code.calls-codec·reader·first-u16 (first-thm.met 𝓤 H 𝓜 𝓖 𝓡))
+    (cited 𝓤 H (BehindC numbers 𝓤 Behind H (𝓖 .A)) 𝓜 𝓡 code.env behind-def.name behind-def.routine
+    code.calls-codec·reader·behind-u16 (behind-thm.met 𝓤 H 𝓜 𝓖 𝓡)))
