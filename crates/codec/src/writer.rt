@@ -102,25 +102,30 @@ pub fn put_bytes(buffer: &mut [u8], at: usize, bytes: &[u8])
     put_each(buffer, at, bytes);
 }
 
+// The lengths of the two bodies below.
+pub const SUB_COMMAND_LEN: usize = 1;
+
+pub const WITH_BYTE_LEN: usize = 2;
+
 // A body that is a sub-command alone.
 pub fn write_alone(sub: u8, buffer: &mut [u8]) -> Written
     ensures { λ r. ⌜ WritesAll (sub ∷ []) r (now (buffer .entry)) (now (buffer .exit)) ⌝ }
 {
-    if buffer.len() < 1 {
+    if buffer.len() < SUB_COMMAND_LEN {
         return Written::Refused(Refusal::BufferOverflow);
     }
     buffer[0] = sub;
-    Written::Count(1)
+    Written::Count(SUB_COMMAND_LEN)
 }
 
 // A body that is a sub-command and one byte.
 pub fn write_with_byte(sub: u8, value: u8, buffer: &mut [u8]) -> Written
     ensures { λ r. ⌜ WritesAll (sub ∷ value ∷ []) r (now (buffer .entry)) (now (buffer .exit)) ⌝ }
 {
-    if buffer.len() < 2 {
+    if buffer.len() < WITH_BYTE_LEN {
         return Written::Refused(Refusal::BufferOverflow);
     }
     buffer[0] = sub;
     buffer[1] = value;
-    Written::Count(2)
+    Written::Count(WITH_BYTE_LEN)
 }

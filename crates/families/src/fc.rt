@@ -7,10 +7,10 @@ ghost use Rattle.codec.specs.Reading.{readBody};
 ghost use Rattle.codec.specs.Told.{WritesInOrder};
 ghost use Rattle.families.specs.Sheets.{fcRows};
 ghost use Rattle.families.specs.Fc.{fcSays, toldFc};
-use crate::SUB_COMMAND_LEN;
 use codec::reader::NumberRead;
 use codec::reader::read_byte;
 use codec::refusal::Refusal;
+use codec::writer::SUB_COMMAND_LEN;
 use codec::writer::Written;
 use codec::writer::write_alone;
 

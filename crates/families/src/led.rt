@@ -12,11 +12,11 @@ ghost use Rattle.codec.specs.Told.{WritesInOrder, toldNumber, toldWritten, atMo
 ghost use Rattle.codec.specs.Taking.{inTurn, readBehind};
 ghost use Rattle.families.specs.Sheets.{ledRows, colour};
 ghost use Rattle.families.specs.Led.{colorSays, toldColor, ledSays, toldLed, colorTold, toldFade, fadeSays, stopFirst, timedBytes};
-use crate::SUB_COMMAND_LEN;
 use codec::reader::NumberRead;
 use codec::reader::Reader;
 use codec::reader::Width;
 use codec::refusal::Refusal;
+use codec::writer::SUB_COMMAND_LEN;
 use codec::writer::Written;
 use codec::writer::put_byte;
 use codec::writer::put_number;

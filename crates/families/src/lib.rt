@@ -12,8 +12,3 @@ mod popup;
 pub mod screen;
 pub mod text;
 pub mod vtx;
-
-// A body that is a sub-command alone, and one that has a byte behind it: what codec's `write_alone` and `write_with_byte` write.
-const SUB_COMMAND_LEN: usize = 1;
-
-const WITH_BYTE_LEN: usize = 2;

@@ -7,10 +7,10 @@ ghost use Rattle.codec.specs.Reading.{readBody};
 ghost use Rattle.codec.specs.Told.{WritesInOrder};
 ghost use Rattle.families.specs.Sheets.{osdRows};
 ghost use Rattle.families.specs.Osd.{osdSays, toldOsd};
-use crate::WITH_BYTE_LEN;
 use codec::reader::NumberRead;
 use codec::reader::read_byte;
 use codec::refusal::Refusal;
+use codec::writer::WITH_BYTE_LEN;
 use codec::writer::Written;
 use codec::writer::write_with_byte;
 

@@ -75,8 +75,8 @@ pub(crate) fn stored(s: &[u8], at: usize, n: usize) -> [u8; 55]
     ensures { λ r. ⌜ r ≡ padded 55 (take n (drop at (now (s .entry)))) ⌝ }
 {
     let mut out = [0u8; 55];
-    let e = at + n;
-    bytes::copy(&s[at..e], &mut out);
+    let end = at + n;
+    bytes::copy(&s[at..end], &mut out);
     out
 }
 
@@ -86,8 +86,8 @@ pub(crate) fn text_at(s: &[u8], at: usize, n: usize) -> CommandString
     ensures { λ r. ⌜ r ≡ textOf (take n (drop at (now (s .entry)))) ⌝ }
 {
     let mut out = [0u8; 51];
-    let e = at + n;
-    bytes::copy(&s[at..e], &mut out);
+    let end = at + n;
+    bytes::copy(&s[at..end], &mut out);
     CommandString { len: n, bytes: out }
 }
 
@@ -125,8 +125,8 @@ impl CommandString {
     pub(crate) fn made(self) -> bool
         ensures { λ r. ⌜ r ≡ madeText self ⌝ }
     {
-        let b = self.bytes;
-        made_bytes(&b, self.len, MAX_COMMAND_STRING_LEN)
+        let bytes = self.bytes;
+        made_bytes(&bytes, self.len, MAX_COMMAND_STRING_LEN)
     }
 }
 

@@ -4,7 +4,7 @@ ghost use mathlib.Core.List.{_∷_, [], _++_};
 ghost use Prim.Native.Nat.{_+_, _*_, _/_, _%_, _<_, _≤_};
 ghost use lib.ListN.{length};
 ghost use Rattle.codec.specs.Digits.{numberOf, bytesOf};
-ghost use Rattle.images.specs.Values.{laid, fcLaid, vtxLaid, colorBytes, ledLaid, generalLaid, crossfireLaid, flowLaid, screenLaid, ackLaid, payloadLaid, wordAt, longAt, colorAt, fcAt, vtxAt, ledAt, generalAt, crossfireAt, flowAt, screenAt, ackAt, payloadAt};
+ghost use Rattle.images.specs.Values.{laid, fcLaid, vtxLaid, colorBytes, ledLaid, generalLaid, crossfireLaid, flowLaid, screenLaid, ackLaid, payloadLaid, wordAt, colorAt, fcAt, vtxAt, ledAt, generalAt, crossfireAt, flowAt, screenAt, ackAt, payloadAt};
 use crate::record::RECORD_ID;
 use crate::record::RECORD_SUB_COMMAND;
 use crate::record::RECORD_VALUES;
@@ -376,17 +376,11 @@ fn word_at(image: &[u8], at: usize) -> u16
     word(image[at], image[at + 1])
 }
 
+// The one number of four bytes is two words.
 fn long(high: u16, low: u16) -> u32
     ensures { λ r. ⌜ r ≡ high * 65536 + low ⌝ }
 {
     (high as u32) * 65536 + low as u32
-}
-
-fn long_at(image: &[u8], at: usize) -> u32
-    requires { ⌜ at + 4 ≤ length (now image) ⌝ }
-    ensures { λ r. ⌜ r ≡ longAt (now (image .entry)) at ⌝ }
-{
-    long(word_at(image, at), word_at(image, at + 2))
 }
 
 fn color_at(image: &[u8], at: usize) -> LedColor
@@ -461,7 +455,10 @@ fn general_at(image: &[u8]) -> GeneralCommand
     match image[RECORD_SUB_COMMAND] {
         SUB_COMMAND_ID_GENERAL_SPEED_PROPOSAL => GeneralCommand::SpeedProposal {
             port_id: image[RECORD_VALUES],
-            proposed_baudrate: long_at(image, SECOND_VALUE),
+            proposed_baudrate: long(
+                word_at(image, SECOND_VALUE),
+                word_at(image, SECOND_VALUE + 2),
+            ),
         },
         _ => GeneralCommand::SpeedProposalResponse {
             port_id: image[RECORD_VALUES],

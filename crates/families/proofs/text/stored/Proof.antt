@@ -13,8 +13,8 @@ returns c =
     at-copy .copy .ensures .1 ∙ copied (now (at-start .args .s)) (at-start .args .at) (at-start .args .n) 55 (at-start .pre .0)
 
 -- ---- what the toolchain asks for, and finds
-add-e : tie.Need-add-e
-add-e c = search needs
+add-end : tie.Need-add-end
+add-end c = search needs
 
 sub-copy : tie.Need-sub-copy
 sub-copy c = search needs
@@ -35,7 +35,7 @@ pub stored-spec : {M : Type 1} → statement M
 stored-spec =
     tie.close
     (tie.spec
-    add-e
+    add-end
     sub-copy
     part-copy-start
     part-copy-end

@@ -15,8 +15,8 @@ returns c =
     (at-start .pre .0))
 
 -- ---- what the toolchain asks for, and finds
-add-e : tie.Need-add-e
-add-e c = search needs
+add-end : tie.Need-add-end
+add-end c = search needs
 
 sub-copy : tie.Need-sub-copy
 sub-copy c = search needs
@@ -37,7 +37,7 @@ pub text-at-spec : {M : Type 1} → statement M
 text-at-spec =
     tie.close
     (tie.spec
-    add-e
+    add-end
     sub-copy
     part-copy-start
     part-copy-end
