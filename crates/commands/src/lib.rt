@@ -12,6 +12,7 @@ use codec::refusal::Refusal;
 use codec::writer::Written;
 use families::fc::FcCommand;
 use families::payload::CommandPayload;
+use families::screen::MAX_POPUP_DATA_LEN;
 
 pub mod kind;
 mod reading;
@@ -26,7 +27,7 @@ pub struct DirectCommands {
     pub src_addr: u8,
     pub payload: CommandPayload,
     pub len: usize,
-    pub bytes: [u8; 55],
+    pub bytes: [u8; MAX_POPUP_DATA_LEN],
 }
 
 pub struct CommandAnswer {
@@ -50,7 +51,7 @@ impl DirectCommands {
             src_addr: 0,
             payload: CommandPayload::Fc(FcCommand::ForceDisarm),
             len: 0,
-            bytes: [0u8; 55],
+            bytes: [0u8; MAX_POPUP_DATA_LEN],
         }
     }
 

@@ -25,6 +25,7 @@ use families::payload::COMMAND_ID_RC_OVER_WIFI;
 use families::payload::COMMAND_ID_SCREEN;
 use families::payload::COMMAND_ID_VTX;
 use families::payload::CommandPayload;
+use families::screen::MAX_POPUP_DATA_LEN;
 use families::vtx::VtxRead;
 
 // A command that stores no bytes.
@@ -38,7 +39,7 @@ fn plain(dst: u8, src: u8, payload: CommandPayload) -> CommandAnswer
             src_addr: src,
             payload,
             len: 0,
-            bytes: [0u8; 55],
+            bytes: [0u8; MAX_POPUP_DATA_LEN],
         },
     }
 }

@@ -7,6 +7,7 @@ ghost use Rattle.codec.specs.Refusals.{refusalNumber};
 ghost use Rattle.codec.specs.Sheet.{got, refused};
 ghost use Rattle.codec.specs.Writing.{writeItems};
 ghost use Rattle.families.specs.Ack.{ackItems, readAck, ackWith, ackSays, WritesAck, newAck, AckIs, madeInformation};
+use crate::screen::MAX_POPUP_DATA_LEN;
 use codec::reader::TextRead;
 use codec::reader::read_text;
 use codec::refusal::Outcome;
@@ -35,7 +36,7 @@ pub struct AckAnswer {
     pub outcome: Outcome,
     pub ack: CommandAck,
     pub len: usize,
-    pub bytes: [u8; 55],
+    pub bytes: [u8; MAX_POPUP_DATA_LEN],
 }
 
 // "With each number come the same blank record"
@@ -50,7 +51,7 @@ fn refused_with(why: Refusal) -> AckAnswer
             action: 0,
         },
         len: 0,
-        bytes: [0u8; 55],
+        bytes: [0u8; MAX_POPUP_DATA_LEN],
     }
 }
 

@@ -242,7 +242,7 @@ pub(crate) fn put(fields: ScreenPopupFields) -> ScreenPopup
     requires { ⌜ numberIn (construct fields) ≡ 0 ⌝ }
     ensures { λ r. ⌜ got r ≡ construct fields ⌝ }
 {
-    let mut bytes = [0u8; 55];
+    let mut bytes = [0u8; MAX_POPUP_DATA_LEN];
     let len = put_all(&mut bytes, fields);
     ScreenPopup { len, bytes }
 }

@@ -20,6 +20,7 @@ use crate::popup::PopupRead;
 use crate::popup::Span;
 use crate::text::CommandString;
 use codec::reader::FlagRead;
+use codec::reader::MAX_COMMAND_STRING_LEN;
 use codec::reader::NumberRead;
 use codec::reader::Reader;
 use codec::refusal::Outcome;
@@ -35,7 +36,7 @@ pub const SUB_COMMAND_ID_SCREEN_POPUP_MESSAGE_START: u8 = 0x01;
 pub const SUB_COMMAND_ID_SCREEN_SELECTION_RETURN_VALUE: u8 = 0x02;
 
 // "Popup data is at most 55 bytes."
-pub(crate) const MAX_POPUP_DATA_LEN: usize = 55;
+pub const MAX_POPUP_DATA_LEN: usize = 55;
 
 // The Rust's Option<ScreenAdditionalData>; the selection's texts and numbers stand beside it in the fields.
 pub enum ScreenAdditionalData {
@@ -67,7 +68,7 @@ pub struct FieldsAnswer {
 
 pub struct ScreenPopup {
     pub len: usize,
-    pub bytes: [u8; 55],
+    pub bytes: [u8; MAX_POPUP_DATA_LEN],
 }
 
 pub struct PopupAnswer {
@@ -99,7 +100,7 @@ fn refused_with(why: Refusal) -> ScreenAnswer
         },
         popup: ScreenPopup {
             len: 0,
-            bytes: [0u8; 55],
+            bytes: [0u8; MAX_POPUP_DATA_LEN],
         },
     }
 }
@@ -112,7 +113,7 @@ fn return_of(value: u8, response: bool) -> ScreenAnswer
         command: ScreenCommand::SelectionReturnValue { value, response },
         popup: ScreenPopup {
             len: 0,
-            bytes: [0u8; 55],
+            bytes: [0u8; MAX_POPUP_DATA_LEN],
         },
     }
 }
@@ -274,7 +275,7 @@ impl ScreenPopupFields {
     {
         let text = CommandString {
             len: 0,
-            bytes: [0u8; 51],
+            bytes: [0u8; MAX_COMMAND_STRING_LEN],
         };
         ScreenPopupFields {
             header: text,
@@ -381,7 +382,7 @@ impl ScreenPopup {
                 outcome: Outcome::Refused(r),
                 popup: ScreenPopup {
                     len: 0,
-                    bytes: [0u8; 55],
+                    bytes: [0u8; MAX_POPUP_DATA_LEN],
                 },
             },
         }

@@ -6,13 +6,14 @@ ghost use Rattle.codec.specs.Writing.{nonzero};
 ghost use Rattle.codec.specs.Refusals.{refusalNumber};
 ghost use Rattle.codec.specs.Sheet.{refused};
 ghost use Rattle.families.specs.Text.{zeros, madeBytes, madeText, padded, textOf, newText, TextIs};
+use crate::screen::MAX_POPUP_DATA_LEN;
 use codec::reader::MAX_COMMAND_STRING_LEN;
 use codec::refusal::Outcome;
 use codec::refusal::Refusal;
 
 pub struct CommandString {
     pub len: usize,
-    pub bytes: [u8; 51],
+    pub bytes: [u8; MAX_COMMAND_STRING_LEN],
 }
 
 pub struct TextAnswer {
@@ -70,11 +71,11 @@ pub fn made_bytes(bytes: &[u8], len: usize, most: usize) -> bool
 }
 
 // The n bytes from a place on, and zeros.
-pub(crate) fn stored(s: &[u8], at: usize, n: usize) -> [u8; 55]
+pub(crate) fn stored(s: &[u8], at: usize, n: usize) -> [u8; MAX_POPUP_DATA_LEN]
     requires { ⌜ (at + n ≤ length (now s)) × (n ≤ 55) ⌝ }
     ensures { λ r. ⌜ r ≡ padded 55 (take n (drop at (now (s .entry)))) ⌝ }
 {
-    let mut out = [0u8; 55];
+    let mut out = [0u8; MAX_POPUP_DATA_LEN];
     let end = at + n;
     bytes::copy(&s[at..end], &mut out);
     out
@@ -85,7 +86,7 @@ pub(crate) fn text_at(s: &[u8], at: usize, n: usize) -> CommandString
     requires { ⌜ (at + n ≤ length (now s)) × (n ≤ 51) ⌝ }
     ensures { λ r. ⌜ r ≡ textOf (take n (drop at (now (s .entry)))) ⌝ }
 {
-    let mut out = [0u8; 51];
+    let mut out = [0u8; MAX_COMMAND_STRING_LEN];
     let end = at + n;
     bytes::copy(&s[at..end], &mut out);
     CommandString { len: n, bytes: out }
@@ -99,7 +100,7 @@ fn refused_with(why: Refusal) -> TextAnswer
         outcome: Outcome::Refused(why),
         text: CommandString {
             len: 0,
-            bytes: [0u8; 51],
+            bytes: [0u8; MAX_COMMAND_STRING_LEN],
         },
     }
 }
