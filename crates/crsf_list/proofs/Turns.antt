@@ -1,8 +1,8 @@
 -- A turn of the loop over a chunk's parts. Assumes nothing.
-use Prim.Native.Nat.{ℕ, zero, suc, _+_, _-_, _<_, _≤_}
+use Prim.Native.Nat.{ℕ, suc, _+_, _-_, _<_, _≤_}
 use mathlib.Core.Bool.{false}
 use mathlib.Core.List.{List}
-use mathlib.Core.Path.{_≡_, refl, ap, sym, subst, _∙_}
+use mathlib.Core.Path.{_≡_, ap, sym, subst, _∙_}
 use native.Mathlib.Omega.{arith}
 use native.Mathlib.Numerals.{add-one}
 use lib.ListN.{length}
@@ -15,7 +15,8 @@ use Rattle.listing.specs.declared.Listing.{Listing}
 use Rattle.listing.specs.declared.Part.{Part}
 use Rattle.listing.specs.declared.Stop.the-variants.{Full}
 use Rattle.listing.proofs.Parts.{SoFar, next-part, so-far-turn, so-far-ends}
-use Rattle.crsf_list.specs.Handed.{Front, partText}
+use Rattle.text.specs.Putting.{Front}
+use Rattle.crsf_list.specs.Handed.{partText}
 
 module _ {room : ℕ} {s₀ s : Listing} {i t t' : List ℕ} {at k : ℕ} {r : Part} (e : length t ≡ room)
     (g : SoFar room s₀ i k s at) (h : FillsFrom s i at r t t') where
@@ -43,7 +44,3 @@ module _ {room : ℕ} {s₀ s : Listing} {i t t' : List ℕ} {at k : ℕ} {r : P
   pub part-last : (toldStop (r .stop) ≡ got false → ⊥)
       → (r .state ≡ stateIn (chunk s₀ i)) × (textOfParts room s₀ i (suc k) ≡ textOfChunk s₀ i)
   part-last f = rw (← e) (so-far-ends here h f)
-
-pub some : (n : ℕ) → (n ≡ 0 → ⊥) → 0 < n
-some zero h = absurd (h refl)
-some (suc n) h = omega arith

@@ -7,19 +7,16 @@ ghost use lib.ListN.{length};
 ghost use Rattle.listing.specs.Chunks.{After};
 ghost use Rattle.listing.specs.Parts.{textOfClosing};
 ghost use Rattle.listing.specs.Text.{longestText};
-ghost use Rattle.crsf_list.specs.Handed.{Front, partText, Whole, beforeName};
+ghost use Rattle.text.specs.Putting.{Front};
+ghost use Rattle.crsf_list.specs.Handed.{partText, Whole};
 use codec::writer::Written;
-use libc::STDERR_FILENO;
-use libc::STDIN_FILENO;
-use libc::STDOUT_FILENO;
+use console::Chunk;
+use console::Input;
 use listing::Listed;
 use listing::Listing;
 use listing::Stop;
 
-// How long `crsf_list: ` is.
-const BEFORE_NAME: usize = 11;
-
-// With the longest path of Linux, 4096 bytes, behind it.
+// `crsf_list: `, 11 bytes, and the longest path of Linux, 4096, behind it.
 const NAME_ROOM: usize = 4107;
 
 // What was listed of a chunk: the state behind it, the number of its last part, and whether all of it was written.
@@ -31,11 +28,7 @@ struct Progress {
 
 // A kit program has no exit status: what failed is said on standard error, and no closing line is written.
 fn write_out(text: &[u8]) -> bool {
-    let wrote = io::write_all(STDOUT_FILENO, text);
-    if !wrote {
-        os::fail(b"crsf_list: standard output");
-    }
-    wrote
+    console::write_out(text, b"crsf_list: standard output")
 }
 
 // Part `turn` of the chunk `input`.
@@ -124,16 +117,14 @@ fn list_all(fd: i32, name: &[u8], input: &mut [u8], text: &mut [u8])
 {
     let mut state = Listing::new();
     for chunks in 0..u64::MAX {
-        let got = libc::read(fd, input);
-        if got < 0 {
-            os::fail(name);
-            return;
-        }
-        let count = io::count(got, input);
-        if count == 0 {
-            close(chunks, state, text);
-            return;
-        }
+        let count = match console::read(fd, name, input) {
+            Chunk::Bytes(count) => count,
+            Chunk::End => {
+                close(chunks, state, text);
+                return;
+            }
+            Chunk::Failed => return,
+        };
         let progress = list_chunk(chunks, state, &input[..count], text);
         if !progress.wrote {
             return;
@@ -149,60 +140,15 @@ fn list(fd: i32, name: &[u8]) {
     list_all(fd, name, &mut input, &mut text);
 }
 
-fn list_standard_input() {
-    list(STDIN_FILENO, b"crsf_list: standard input");
-}
-
-fn usage() {
-    io::write_all(
-        STDERR_FILENO,
-        b"usage: crsf_list [FILE]\nLists the recording FILE; standard input without FILE, or where it is -.\n",
-    );
-}
-
-// `crsf_list: ` and the argument, as an error tells it: a file; `-`; or another word that begins so, an option, and none is known.
-fn list_named(name: &[u8])
-    requires { ⌜ beforeName ≤ length (now name) ⌝ }
-{
-    if name.len() > BEFORE_NAME && name[BEFORE_NAME] == b'-' {
-        if name.len() == BEFORE_NAME + 1 {
-            list_standard_input();
-            return;
-        }
-        usage();
-        return;
-    }
-    let fd = os::open_read(&name[BEFORE_NAME..]);
-    if fd < 0 {
-        os::fail(name);
-        return;
-    }
-    list(fd, name);
-}
-
-fn list_argument(name: &mut [u8])
-    requires { ⌜ beforeName ≤ length (now name) ⌝ }
-{
-    codec::writer::put_bytes(name, 0, b"crsf_list: ");
-    let len = os::arg(1, &mut name[BEFORE_NAME..]);
-    if os::errno() != 0 {
-        os::fail(b"crsf_list: argument");
-        return;
-    }
-    let end = BEFORE_NAME + len;
-    list_named(&name[..end]);
-}
-
 fn main() {
-    let given = os::arg_count();
-    if given > 2 {
-        usage();
-        return;
-    }
-    if given < 2 {
-        list_standard_input();
-        return;
-    }
     let mut name = [0u8; NAME_ROOM];
-    list_argument(&mut name);
+    let opened = console::open_input(
+        b"crsf_list",
+        b"usage: crsf_list [FILE]\nLists the recording FILE; standard input without FILE, or where it is -.\n",
+        &mut name,
+    );
+    let Input::Opened { fd, len } = opened else {
+        return;
+    };
+    list(fd, &name[..len]);
 }

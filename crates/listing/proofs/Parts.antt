@@ -18,6 +18,7 @@ use Rattle.codec.specs.Told.{WritesAll}
 use Rattle.codec.specs.declared.writer.Written.{Written}
 use Rattle.codec.specs.declared.writer.Written.the-variants.{Count, Refused as NotWritten}
 use Rattle.codec.proofs.Loops.{sets-append}
+use Rattle.text.proofs.Behind.{behind-none, behind-some}
 use Rattle.listing.specs.Listing.{listing}
 use Rattle.listing.specs.Text.{longestText, textOf, PutsText}
 use Rattle.listing.specs.Step.{mostRecords, Stepped, toldListed, toldStep, inLimits, opened, goOn, stepOf, closing}
@@ -32,7 +33,7 @@ use Rattle.listing.specs.declared.Stop.the-variants.{Used, Full, Refused
 use Rattle.listing.specs.declared.Part.{Part}
 use Rattle.listing.proofs.StepLaws.{limit-count, limit-held, goes-none, goes-line, step-none, step-opens, step-goes, step-refused, closing-end, closing-cut, closing-refused, take-put}
 use Rattle.listing.proofs.Chunks.{any-chunks}
-use Rattle.listing.proofs.TextLaws.{text-some, longest, puts-none, puts-some}
+use Rattle.listing.proofs.TextLaws.{text-some, longest}
 
 -- ---- a step with a line moves on in its chunk
 data Onward (i : List ℕ) (at : ℕ) (x : Stepped) : Type 0 where
@@ -186,7 +187,7 @@ module _ {s₀ s : Listing} {i t₀ t : List ℕ} {at j n : ℕ} (x : Step) (g :
     -- a line without room: the part ends before it
     pub filling-full : k ≡ 0 → Answers (record { state = s; at = j; len = n; stop = Full }) t'
     filling-full z =
-        let q = puts-none l n k t t' p (omega (arith, g .same, g .room)) z in (
+        let q = behind-none (p .put) (text-some l) z in (
           ends _ _ t' (fill-full (one .0) s i j (length t₀ - n) l line-is (omega (arith, q .0, g .same, g .room)))
               refl refl refl refl refl (q .1),
           (λ longest e. g .moved (omega (arith, q .0, g .same, p .longest))),
@@ -194,7 +195,7 @@ module _ {s₀ s : Listing} {i t₀ t : List ℕ} {at j n : ℕ} (x : Step) (g :
 
     pub filling-turn : (k ≡ 0 → ⊥) → Filling s₀ i at t₀ (x .state) (x .at) (n + k) t'
     filling-turn z =
-        let q = puts-some l n k t t' p (omega (arith, g .same, g .room)) z in
+        let q = behind-some (p .put) (text-some l) z in
         let m = step-moves s i j l line-is in
         let u : length t₀ - n - length (textOf l) ≡ length t₀ - (n + k) = omega (arith, q .0) in
         record {

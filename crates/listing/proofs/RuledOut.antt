@@ -1,7 +1,7 @@
 -- Wrong answers that the contracts of the public functions rule out: the definition that the contract names, worked out for an input
 -- where the wrong answer would be another. That no other answer is allowed there is in OneAnswer.antt. Assumes nothing.
 use Prim.Native.Nat.{ℕ}
-use mathlib.Core.List.{List, [], _∷_}
+use mathlib.Core.List.{[], _∷_}
 use mathlib.Core.Bool.{true, false}
 use mathlib.Core.Path.{_≡_, refl}
 use lib.ListN.{replicate}
@@ -64,7 +64,7 @@ finish-cut = refl
 pub finish-beyond : closing (inside 256 0) ≡ refused 5 0
 finish-beyond = refl
 
--- ---- line::render (and must-fail/lower_case)
+-- ---- line::render (and must-fail/record_for_number, no_space)
 -- no line is half written: "end 0" and its end are 6 bytes
 pub render-no-room : WritesAll (textOf (End 0)) (NotWritten BufferOverflow) (replicate 5 7) (replicate 5 7)
 render-no-room = (refl, refl)

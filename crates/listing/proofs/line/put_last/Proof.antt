@@ -1,7 +1,11 @@
--- `line::put_last` meets its contract. Assumes nothing.
+-- `line::put_last` meets its contract: the word has room before its number. Assumes nothing.
 use native.Mathlib.Omega.{arith}
+use mathlib.Core.List.{_++_}
 use denote.Ref.{now}
-use Rattle.listing.proofs.TextLaws.{in-front}
+use lib.ListN.{length-append}
+use Rattle.text.specs.Pieces.{decimal, newline}
+use Rattle.text.proofs.Digits.{end-length}
+use Rattle.text.proofs.Before.{grown-first, grown-more}
 use borrow.Author.Needs.{needs}
 use Rattle.listing.proofs.line.put_last.Statement.{statement}
 use Rattle.listing.proofs.line.put_last.Tie as tie
@@ -10,14 +14,17 @@ returns : tie.Need-returns
 returns c =
     let at-put-word = c .before .before in
     let at-put-end = at-put-word .before .before .before .before in
-    let given = at-put-end .before .before .before .before .args in
-    (omega arith, in-front (now (given .word)) (at-put-word .put-word .ensures .1) (at-put-end .put-end .ensures .1 .1))
+    let at-start = at-put-end .before .before .before .before in
+    let given = at-start .args in
+    let last = end-length (given .count) (omega arith) in
+    let number = grown-first (at-start .pre .0) (at-put-end .put-end .ensures) (omega arith) in
+    grown-more number (at-put-word .put-word .ensures)
+    (omega (arith, at-start .pre .1, length-append (now (given .word)) (decimal (given .count) ++ newline))) .ends
 
--- what is left
+-- ---- what the toolchain asks for, and finds
 put-end-requires : tie.Need-put-end-requires
 put-end-requires c κs = search needs
 
--- ---- what the toolchain asks for, and finds
 put-word-requires : tie.Need-put-word-requires
 put-word-requires c κs = search needs
 

@@ -1,7 +1,9 @@
--- `line::put_read` meets its contract. Assumes nothing.
+-- `line::put_read` meets its contract: each word has room before those behind it. Assumes nothing.
 use native.Mathlib.Omega.{arith}
-use Rattle.listing.specs.Text.{decimal, hexOf, readWord, space}
-use Rattle.listing.proofs.TextLaws.{in-front}
+use Rattle.text.proofs.Digits.{end-length}
+use Rattle.text.proofs.Before.{grown-first, grown-more}
+use Rattle.listing.specs.declared.line.Line.the-variants.{Read}
+use Rattle.listing.proofs.TextLaws.{longest}
 use borrow.Author.Needs.{needs}
 use Rattle.listing.proofs.line.put_read.Statement.{statement}
 use Rattle.listing.proofs.line.put_read.Tie as tie
@@ -13,19 +15,20 @@ returns c =
     let at-put-hex = at-put-word2 .before .before .before .before .before in
     let at-put-word = at-put-hex .before .before .before .before in
     let at-put-end = at-put-word .before .before .before .before .before in
-    let given = at-put-end .before .before .before .args in (
-      omega arith,
-      in-front (decimal (given .count)) (at-put-decimal .put-decimal .ensures .1)
-          (in-front readWord (at-put-word2 .put-word2 .ensures .1)
-          (in-front (hexOf (given .family)) (at-put-hex .put-hex .ensures .1)
-          (in-front space (at-put-word .put-word .ensures .1) (at-put-end .put-end .ensures .1 .1)))),
-    )
+    let at-start = at-put-end .before .before .before in
+    let given = at-start .args in
+    let last = end-length (given .written) (omega arith) in
+    let number = grown-first (at-start .pre) (at-put-end .put-end .ensures) (omega arith) in
+    let space = grown-more number (at-put-word .put-word .ensures) (omega arith) in
+    let id = grown-more space (at-put-hex .put-hex .ensures) (omega arith) in
+    let word = grown-more id (at-put-word2 .put-word2 .ensures) (omega arith) in
+    grown-more word (at-put-decimal .put-decimal .ensures)
+    (longest (Read (given .count) (given .family) (given .written)) (omega arith, omega arith)) .ends
 
--- what is left
+-- ---- what the toolchain asks for, and finds
 put-end-requires : tie.Need-put-end-requires
 put-end-requires c κs = search needs
 
--- ---- what the toolchain asks for, and finds
 slice-aggregate-put-word : tie.Need-slice-aggregate-put-word
 slice-aggregate-put-word c = search needs
 

@@ -1,7 +1,9 @@
--- `line::put_refused` meets its contract. Assumes nothing.
+-- `line::put_refused` meets its contract: each word has room before those behind it. Assumes nothing.
 use native.Mathlib.Omega.{arith}
-use Rattle.listing.specs.Text.{decimal, refusedWord}
-use Rattle.listing.proofs.TextLaws.{in-front}
+use Rattle.text.proofs.Digits.{end-length}
+use Rattle.text.proofs.Before.{grown-first, grown-more}
+use Rattle.listing.specs.declared.line.Line.the-variants.{Refused}
+use Rattle.listing.proofs.TextLaws.{longest}
 use borrow.Author.Needs.{needs}
 use Rattle.listing.proofs.line.put_refused.Statement.{statement}
 use Rattle.listing.proofs.line.put_refused.Tie as tie
@@ -11,17 +13,18 @@ returns c =
     let at-put-decimal = c .before .before in
     let at-put-word = at-put-decimal .before .before .before .before in
     let at-put-end = at-put-word .before .before .before .before .before in
-    let given = at-put-end .before .before .before .args in (
-      omega arith,
-      in-front (decimal (given .count)) (at-put-decimal .put-decimal .ensures .1)
-          (in-front refusedWord (at-put-word .put-word .ensures .1) (at-put-end .put-end .ensures .1 .1)),
-    )
+    let at-start = at-put-end .before .before .before in
+    let given = at-start .args in
+    let last = end-length (given .why) (omega arith) in
+    let number = grown-first (at-start .pre) (at-put-end .put-end .ensures) (omega arith) in
+    let word = grown-more number (at-put-word .put-word .ensures) (omega arith) in
+    grown-more word (at-put-decimal .put-decimal .ensures)
+    (longest (Refused (given .count) (given .why)) (omega arith, omega arith)) .ends
 
--- what is left
+-- ---- what the toolchain asks for, and finds
 put-end-requires : tie.Need-put-end-requires
 put-end-requires c κs = search needs
 
--- ---- what the toolchain asks for, and finds
 slice-aggregate-put-word : tie.Need-slice-aggregate-put-word
 slice-aggregate-put-word c = search needs
 

@@ -1,39 +1,24 @@
--- `line::put_text` meets its contract. Assumes nothing.
+-- `line::put_text` meets its contract: the line's text, as it stands at the end of its array, is put. Assumes nothing.
 use native.Mathlib.Omega.{arith}
-use Prim.Native.Nat.{_-_}
 use mathlib.Core.Path.{_≡_}
-use denote.Ref.{now}
-use lib.ListN.{length, take, drop, length-drop}
-use lib.Seq.{take-all}
-use Rattle.listing.specs.Text.{longestText}
-use Rattle.listing.proofs.TextLaws.{puts-not, puts-all}
+use lib.ListN.{length}
+use Rattle.text.proofs.Before.{ends-part}
+use Rattle.listing.specs.Text.{longestText, textOf}
 use borrow.Author.Needs.{needs}
 use Rattle.listing.proofs.line.put_text.Statement.{statement}
 use Rattle.listing.proofs.line.put_text.Tie as tie
 
 returns : tie.Need-returns
 returns c =
-    let at-put-line = c .before .before in
-    let at-start = at-put-line .before .before .before in
-    let given = at-start .args in
+    let at-put-behind = c .before .before in
+    let at-put-line = at-put-behind .before .before .before .before .before in
+    let given = at-put-line .before .before .before .args in
     let put = at-put-line .put-line in
-    let h : length (put .last .0) ≡ longestText = search needs in
-    puts-not (given .line) (put .last .0) (now (given .out)) (given .at) (put .result) h (put .ensures .1) (at-start .pre) (c .if1 .taken)
-
-returns-2 : tie.Need-returns-2
-returns-2 c =
-    let at-put-bytes = c .before .before in
-    let at-if1 = at-put-bytes .before .before .before .before in
-    let at-put-line = at-if1 .before .before in
-    let at-start = at-put-line .before .before .before in
-    let given = at-start .args in
-    let put = at-put-line .put-line in
-    let h : length (put .last .0) ≡ longestText = search needs in
-    let part = take (longestText - put .result) (drop (put .result) (put .last .0)) in
-    let all : part ≡ drop (put .result) (put .last .0) = take-all (longestText - put .result) (drop (put .result) (put .last .0))
-    (rw length-drop (omega arith)) in
-    puts-all (given .line) (put .last .0) (now (given .out)) (given .at) (put .result) h (put .ensures .1)
-    (at-start .pre) _ part (at-if1 .if1 .left) all (at-put-bytes .put-bytes .ensures)
+    let all : length (put .last .0) ≡ longestText = search needs in record {
+      put = rw (ends-part (textOf (given .line)) (put .result) longestText (put .last .0) all (put .ensures .bytes))
+          at (at-put-behind .put-behind .ensures);
+      longest = omega (arith, put .ensures .start);
+    }
 
 -- ---- what the toolchain asks for, and finds
 slice-aggregate-put-line : tie.Need-slice-aggregate-put-line
@@ -42,23 +27,17 @@ slice-aggregate-put-line c = search needs
 put-line-requires : tie.Need-put-line-requires
 put-line-requires c κs = search needs
 
-sub-len : tie.Need-sub-len
-sub-len c = search needs
+sub-put-behind : tie.Need-sub-put-behind
+sub-put-behind c = search needs
 
-sub-if1 : tie.Need-sub-if1
-sub-if1 c = search needs
+part-put-behind-start : tie.Need-part-put-behind-start
+part-put-behind-start c = search needs
 
-sub-put-bytes : tie.Need-sub-put-bytes
-sub-put-bytes c = search needs
+part-put-behind-end : tie.Need-part-put-behind-end
+part-put-behind-end c = search needs
 
-part-put-bytes-start : tie.Need-part-put-bytes-start
-part-put-bytes-start c = search needs
-
-part-put-bytes-end : tie.Need-part-put-bytes-end
-part-put-bytes-end c = search needs
-
-put-bytes-requires : tie.Need-put-bytes-requires
-put-bytes-requires c κs = search needs
+put-behind-requires : tie.Need-put-behind-requires
+put-behind-requires c κs = search needs
 
 same-length : tie.Need-same-length
 same-length c = search needs
@@ -69,12 +48,9 @@ put-text-spec =
     (tie.spec
     slice-aggregate-put-line
     put-line-requires
-    sub-len
-    sub-if1
-    returns
-    sub-put-bytes
-    part-put-bytes-start
-    part-put-bytes-end
-    put-bytes-requires
+    sub-put-behind
+    part-put-behind-start
+    part-put-behind-end
+    put-behind-requires
     same-length
-    returns-2)
+    returns)

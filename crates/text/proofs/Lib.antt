@@ -1,0 +1,5 @@
+pub mod Digits
+pub mod Before
+pub mod Behind
+pub mod OneAnswer
+pub mod RuledOut
