@@ -21,6 +21,8 @@ use Rattle.families.specs.declared.ack.CommandAck.{CommandAck}
 use Rattle.families.specs.declared.ack.AckAnswer.{AckAnswer}
 use Rattle.families.proofs.text.CommandString.new.Reads as new-text
 use Rattle.families.proofs.text.CommandString.new.Kinds as new-text-kinds
+use Rattle.families.proofs.text.all_zero.Reads as all-zero
+use Rattle.families.proofs.text.all_zero.Kinds as all-zero-kinds
 use Rattle.families.proofs.text.made_bytes.Reads as made-bytes
 use Rattle.families.proofs.text.made_bytes.Kinds as made-bytes-kinds
 use Rattle.families.proofs.ack.CommandAck.new.Reads as new-ack
@@ -53,6 +55,11 @@ pub new-text-one : (κs : Lfts 1) (a : Dens κs new-text-kinds.ps) (x y : resT n
     (s t : AtExit (endedOf 1 new-text-kinds.ps new-text-kinds.r) κs)
     → new-text.Post κs a x s → new-text.Post κs a y t → x ≡ y
 new-text-one κs a x y s t p q = text-one (newText (now (a .0))) x y p q
+
+pub all-zero-one : (κs : Lfts 1) (a : Dens κs all-zero-kinds.ps) (x y : resT all-zero-kinds.r κs .Denot)
+    (s t : AtExit (endedOf 1 all-zero-kinds.ps all-zero-kinds.r) κs)
+    → all-zero.Post κs a x s → all-zero.Post κs a y t → x ≡ y
+all-zero-one κs a x y s t p q = p ∙ sym q
 
 pub made-bytes-one : (κs : Lfts 1) (a : Dens κs made-bytes-kinds.ps) (x y : resT made-bytes-kinds.r κs .Denot)
     (s t : AtExit (endedOf 1 made-bytes-kinds.ps made-bytes-kinds.r) κs)

@@ -22,7 +22,7 @@ use Rattle.families.specs.Led.{ledSays}
 use Rattle.families.specs.General.{generalSays}
 use Rattle.families.specs.Crossfire.{crossfireSays}
 use Rattle.families.specs.FlowControl.{flowSays}
-use Rattle.families.specs.Text.{madeBytes, textOf, newText}
+use Rattle.families.specs.Text.{madeBytes, textOf, newText, zeros}
 use Rattle.families.specs.Ack.{ackItems, readAck, ackWith, ackSays, stopAck, newAck, madeInformation}
 use Rattle.families.specs.Fields.{popupOf, construct, blankFields, inspect, madePopup}
 use Rattle.families.specs.Screen.{readScreen, ScreenIs, screenBody}
@@ -210,6 +210,13 @@ unused-7 = refl
 -- a used one that is
 pub used-0 : madeBytes 51 2 (0x41 ∷ 0 ∷ 0 ∷ []) ≡ false
 used-0 = refl
+
+-- `text::all_zero`: a byte that is not 0, wherever it stands; no other answer where all are
+pub zeros-7 : zeros (0 ∷ 7 ∷ 0 ∷ []) ≡ false
+zeros-7 = refl
+
+pub zeros-all : zeros (0 ∷ 0 ∷ []) ≡ true
+zeros-all = refl
 
 -- ---- ack::CommandAck::new
 -- the length is judged before action and bytes

@@ -35,7 +35,7 @@ pub(crate) fn all_nonzero(s: &[u8]) -> bool
 }
 
 // No way out before the end, so that the compiler takes many bytes at a time.
-fn all_zero(s: &[u8]) -> bool
+pub fn all_zero(s: &[u8]) -> bool
     ensures { λ r. ⌜ r ≡ zeros (now (s .entry)) ⌝ }
 {
     let mut seen: u8 = 0;

@@ -1,0 +1,4 @@
+pub mod Block
+pub mod Walk
+pub mod Laid
+pub mod Steps
