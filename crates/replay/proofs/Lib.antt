@@ -1,0 +1,9 @@
+pub mod Cases
+pub mod Few
+pub mod AnyBlocks
+pub mod Absent
+pub mod Back
+pub mod OneAnswer
+pub mod Contracts
+pub mod Excluded
+pub mod RuledOut
