@@ -5,15 +5,18 @@
  * To send a popup: crsf_text for each of its texts, then crsf_popup, gives what goes into a record (IMAGES, below).
  * To answer a command: crsf_ack gives what goes into a record.
  * To change a number in a payload: crsf_edit; many of them: crsf_put_edit for each, then crsf_edit_list.
+ * To replay a log: a replay of zeros; each block of it in turn to crsf_replay, and the same block again while the event
+ * that comes of it says that there is more.
  *
  * A slice is a pointer and a length; a null pointer is fine where the length is 0. Any bytes and any length have an
  * answer, and nothing is asked of the caller but that the slices may be read, those that are not const written, and
  * that a slice that is written overlaps no other.
  *
  * Nothing is kept between calls and nothing is allocated: any thread may call any function at any time, on slices that
- * no other thread writes meanwhile, nor reads where the function writes them.
+ * no other thread writes meanwhile, nor reads where the function writes them. What a replay has to know of the blocks
+ * before is in the caller's own bytes.
  *
- * Numbers of two or more bytes are big-endian, in payloads and in images. */
+ * Numbers of two or more bytes are big-endian, in payloads, in blocks and in images. */
 #ifndef CRSF_H
 #define CRSF_H
 
@@ -51,6 +54,10 @@ extern "C" {
 #define CRSF_MAX_INFORMATION 52
 #define CRSF_MAX_POPUP 55
 
+/* A block of the log has CRSF_BLOCK_SIZE bytes, at most CRSF_MAX_USED of them records (BLOCKS, below). */
+#define CRSF_BLOCK_SIZE 512
+#define CRSF_MAX_USED 505
+
 /* AN ANSWER is one number: 0 or a refusal in bits 0-7, a count of bytes in bits 8-15, a place in bits 16-31. Only
  * crsf_write counts, and only where it accepts: every other count is 0. The place is 0 so far. So CRSF_NUMBER(answer)
  * tells which refusal it is; and, but for crsf_write, an answer that is CRSF_ACCEPTED as a whole accepts.
@@ -67,10 +74,12 @@ enum {
     CRSF_INVALID_PAYLOAD = 2,
     CRSF_BUFFER_OVERFLOW = 3,
     CRSF_FAMILY_LEFT_BEHIND = 4, /* command id 0x03 or 0x13 */
-    CRSF_RECORD_NOT_MADE = 5,    /* also: bytes that are the image of no record */
+    CRSF_RECORD_NOT_MADE = 5,    /* also: bytes that are the image of no record, or of no replay */
     CRSF_NOT_AS_WRITTEN = 6,     /* the payload can be read, but writing what it says gives other bytes */
     CRSF_NO_SUCH_FIELD = 7,      /* the command has none */
-    CRSF_OUTSIDE_RANGE = 8
+    CRSF_OUTSIDE_RANGE = 8,
+    CRSF_WRONG_BLOCK_CHECK = 9,  /* this one and the next are in events alone: no function answers them */
+    CRSF_WRONG_BLOCK_LAYOUT = 10 /* used count, length of a record, a byte behind the records that is not 0 */
 };
 
 /* Command ids. */
@@ -131,7 +140,7 @@ enum {
     CRSF_ACK_NO_SUB_COMMAND = 0x00 /* u8 command id, u8 sub-command id, u8 action 0-1; the information is stored */
 };
 
-/* IMAGES. A record, text, ACK or popup crosses this boundary as bytes. Handed in, an image has exactly its size:
+/* IMAGES. A record, text, ACK, popup or event crosses this boundary as bytes. Handed in, an image has exactly its size:
  * another length is 5, and so are bytes that are the image of no record (an unknown id or sub-command, a flag or kind
  * out of range, a byte after the values that is not 0). Handed out, it needs at least its size: less is 3, before all
  * else; more keeps its bytes behind it.
@@ -265,6 +274,48 @@ static inline void crsf_put_edit(uint8_t *edit, uint32_t field, uint32_t number)
     }
 }
 
+/* BLOCKS of the log. A record is a length byte, CRSF_MIN_PAYLOAD to CRSF_MAX_PAYLOAD, then a payload of so many bytes;
+ * one stands behind the other, and the used bytes end with the last. Places in a block count from its first byte, and a
+ * record's place is that of its length byte. */
+enum {
+    CRSF_BLOCK_NUMBER = 0,  /* u32 */
+    CRSF_BLOCK_USED = 4,    /* u16, 0-505: bytes of records */
+    CRSF_BLOCK_RECORDS = 6, /* CRSF_MAX_USED bytes: the records, zeros after */
+    CRSF_BLOCK_CHECK = 511  /* u8: crsf_check of the 511 bytes before it, from 0 */
+};
+
+/* A REPLAY is what is kept of a log between calls, in bytes of the caller's own, which crsf_replay changes in place. A
+ * new one is zeros throughout. Within its limits are: zeros throughout; and started 1, any number, and a place that is
+ * 0 or 6-511. */
+enum {
+    CRSF_REPLAY_STARTED = 0, /* flag: whether a sound block has come */
+    CRSF_REPLAY_BLOCK = 1,   /* u32, number of the last sound block */
+    CRSF_REPLAY_PLACE = 5,   /* u16, place of the next record; 0 where a new block is to come */
+    CRSF_REPLAY_SIZE = 7
+};
+
+/* AN EVENT of a log. Numbers and places that its kind does not have are 0; where there is no command, the record is the
+ * image of disarm with both addresses 0. */
+enum {
+    CRSF_EVENT_KIND = 0,          /* u8, one of the six below */
+    CRSF_EVENT_MORE = 1,          /* flag: whether the block has more events */
+    CRSF_EVENT_BLOCK = 2,         /* u32, number of the block; of a damaged one, the position that the caller gave */
+    CRSF_EVENT_PLACE = 6,         /* u16, place of the record */
+    CRSF_EVENT_NUMBER = 8,        /* u8, the refusal of a record or of a damaged block */
+    CRSF_EVENT_PAYLOAD_PLACE = 9, /* u8, place of that refusal in the record's payload: 0 so far */
+    CRSF_EVENT_RECORD = 10,       /* record, CRSF_RECORD_SIZE bytes */
+    CRSF_EVENT_SIZE = 80
+};
+
+enum {
+    CRSF_KIND_NOTHING = 0,  /* a sound block, in order, without records */
+    CRSF_KIND_COMMAND = 1,  /* block, place, record */
+    CRSF_KIND_REFUSED = 2,  /* a record whose payload crsf_read refuses: block, place, number, place in the payload */
+    CRSF_KIND_DAMAGED = 3,  /* a block that is skipped whole: position, number 1, 9 or 10 */
+    CRSF_KIND_GAP = 4,      /* block: more than one above the sound block before it */
+    CRSF_KIND_STEP_BACK = 5 /* block: not above the sound block before it */
+};
+
 /* Reads a payload into a record's image. Bytes of the body behind the command are ignored. Refused:
  * 3, less room than CRSF_RECORD_SIZE;
  * 1, a payload below CRSF_MIN_PAYLOAD or above CRSF_MAX_PAYLOAD bytes;
@@ -325,6 +376,33 @@ CRSF_MUST_USE uint32_t crsf_popup(const uint8_t *fields, size_t fields_len, uint
  * 3, less room than CRSF_POPUP_FIELDS_SIZE;
  * 5, no image of a popup (another length), or not made. */
 CRSF_MUST_USE uint32_t crsf_popup_fields(const uint8_t *popup, size_t popup_len, uint8_t *fields, size_t fields_len);
+
+/* Hands on the next event of a block of the log, into the front of the event, and keeps in the replay where that stood:
+ * the caller hands in the same block while the event says that there is more, then the next block. A block has at most
+ * 102 events.
+ *
+ * Where a new block is to come, it is judged first. It is damaged, and has this one event, for the first that holds:
+ * 1, another length than CRSF_BLOCK_SIZE; 9, another check than the block's; 10, a used count above CRSF_MAX_USED, a
+ * record's length outside its range or a record beyond the used bytes, or a byte behind them that is not 0. It goes by
+ * the position, which is any number and looked at for nothing else; the replay stays as it was.
+ *
+ * A sound block has, in this order: a gap or a step back, where its number is not exactly one above that of the sound
+ * block before it (0 behind 0xFFFFFFFF is a step back; the first sound block has neither); each record, as the command
+ * that crsf_read gives of its payload, or refused with crsf_read's number. Where all that is none, it has the one event
+ * CRSF_KIND_NOTHING.
+ *
+ * Between two events of a block, it is not judged again. Another block that is handed in there is gone on with at the
+ * same place, where it has a record: the event has that other block's number, there is more while used bytes remain
+ * behind the record, and the replay keeps the number that it had. To leave a block before its end, set the two bytes at
+ * CRSF_REPLAY_PLACE to 0.
+ *
+ * The count is 0. Refused:
+ * 3, less room than CRSF_EVENT_SIZE;
+ * 5, a replay of another length than CRSF_REPLAY_SIZE, or beyond its limits; then, where its place is not 0, a block of
+ * another length than CRSF_BLOCK_SIZE, with a used count above CRSF_MAX_USED, or without a record of CRSF_MIN_PAYLOAD
+ * to CRSF_MAX_PAYLOAD bytes at that place within the used bytes. */
+CRSF_MUST_USE uint32_t crsf_replay(uint8_t *replay, size_t replay_len, uint32_t position, const uint8_t *block,
+                                   size_t len, uint8_t *event, size_t event_len);
 
 /* The check of bytes, from start: 0, or the check of what came before. It is the remainder of the message, times x^8,
  * divided by x^8+x^7+x^5+x^4+x^3+x. Of no bytes it is start. No answer as above, but the check itself: nothing is

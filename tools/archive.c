@@ -1,5 +1,5 @@
-/* Links every function of libcrsf.a, reads, writes and refuses one command, and says so in one line. tools/archive builds it in each way
- * that the archive links; with -DALONE it has no C library, and brings what the archive needs. */
+/* Links every function of libcrsf.a, reads, writes and refuses one command, replays what is no block of a log, and says so in one line.
+ * tools/archive builds it in each way that the archive links; with -DALONE it has no C library, and brings what the archive needs. */
 #include "crsf.h"
 
 long write(int file, const void *bytes, size_t len);
@@ -39,26 +39,32 @@ __attribute__((force_align_arg_pointer)) void _start(void)
 typedef void function(void);
 static function *const volatile functions[] = {
     (function *)crsf_read, (function *)crsf_write, (function *)crsf_edit,         (function *)crsf_edit_list, (function *)crsf_text,
-    (function *)crsf_ack,  (function *)crsf_popup, (function *)crsf_popup_fields, (function *)crsf_check,
+    (function *)crsf_ack,  (function *)crsf_popup, (function *)crsf_popup_fields, (function *)crsf_replay,    (function *)crsf_check,
 };
 
 int main(void)
 {
     uint8_t payload[] = {0xC8, 0xEA, 0x01, 0x01, 0xFE}, record[CRSF_RECORD_SIZE], buffer[CRSF_MAX_PAYLOAD];
-    char line[] = "functions N, read N, written N bytes, wrong check N\n", *at = line;
-    uint32_t numbers[4] = {0};
+    uint8_t replay[CRSF_REPLAY_SIZE] = {0}, event[CRSF_EVENT_SIZE] = {0};
+    char line[] = "functions NN, read N, written N bytes, wrong check N, no block N\n", *at = line;
+    uint32_t digits[6], linked = 0;
 
     for (size_t i = 0; i < sizeof functions / sizeof functions[0]; i++)
-        numbers[0] += functions[i] != NULL;
-    numbers[1] = CRSF_NUMBER(crsf_read(payload, sizeof payload, record, sizeof record));
-    numbers[2] = CRSF_COUNT(crsf_write(record, sizeof record, buffer, sizeof buffer));
+        linked += functions[i] != NULL;
+    digits[0] = linked / 10;
+    digits[1] = linked % 10;
+    digits[2] = CRSF_NUMBER(crsf_read(payload, sizeof payload, record, sizeof record));
+    digits[3] = CRSF_COUNT(crsf_write(record, sizeof record, buffer, sizeof buffer));
     payload[sizeof payload - 1] ^= 1;
-    numbers[3] = CRSF_NUMBER(crsf_read(payload, sizeof payload, record, sizeof record));
+    digits[4] = CRSF_NUMBER(crsf_read(payload, sizeof payload, record, sizeof record));
+    if (crsf_replay(replay, sizeof replay, 0, payload, sizeof payload, event, sizeof event) != CRSF_ACCEPTED)
+        return 1;
+    digits[5] = event[CRSF_EVENT_NUMBER];
 
-    for (int i = 0; i < 4; i++) {
+    for (int i = 0; i < 6; i++) {
         while (*at != 'N')
             at++;
-        *at = (char)('0' + numbers[i]);
+        *at = (char)('0' + digits[i]);
     }
     return write(1, line, sizeof line - 1) != sizeof line - 1;
 }

@@ -26,7 +26,7 @@ module _ {A : Type 0} (image : A → List ℕ) (size : ℕ) (s : List ℕ) (a : 
 
 -- ---- by the outcome o that comes with an answer
 -- accepted: there is a value
-value-is : {A : Type 0} (a : Answer A) (b : A) (o : Outcome) → Some a → outcomeNumber o ≡ numberIn a → o ≡ Accepted → a ≡ got (valueIn b a)
+pub value-is : {A : Type 0} (a : Answer A) (b : A) (o : Outcome) → Some a → outcomeNumber o ≡ numberIn a → o ≡ Accepted → a ≡ got (valueIn b a)
 value-is (got x) b o g e h = refl
 value-is (refused n p) b o g e h =
     let l = g n p refl .0 in
@@ -34,7 +34,7 @@ value-is (refused n p) b o g e h =
     absurd (omega arith)
 
 -- refused: that number, place 0
-number-is : {A : Type 0} (a : Answer A) (o : Outcome) (why : Refusal) → Some a → outcomeNumber o ≡ numberIn a → o ≡ Refused why
+pub number-is : {A : Type 0} (a : Answer A) (o : Outcome) (why : Refusal) → Some a → outcomeNumber o ≡ numberIn a → o ≡ Refused why
     → a ≡ refused (refusalNumber why) 0
 number-is (got x) o why g e h =
     let z : refusalNumber why ≡ 0 = sym (ap outcomeNumber h) ∙ e in

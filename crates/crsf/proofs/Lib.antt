@@ -5,3 +5,6 @@ pub mod OneAnswerMade
 pub mod OneAnswerCommand
 pub mod OneAnswerEdits
 pub mod RuledOut
+pub mod Replayed
+pub mod OneAnswerLog
+pub mod RuledOutLog

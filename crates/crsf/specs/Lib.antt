@@ -1,2 +1,3 @@
 pub mod Handed
 pub mod Edit
+pub mod Log

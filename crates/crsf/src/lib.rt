@@ -1,6 +1,7 @@
 // The functions that C and Rust call: numbers and byte slices only (include/crsf.h).
 pub mod command;
 pub mod edit;
+pub mod log;
 pub mod made;
 
 ghost use mathlib.Core.Path.{_≡_};

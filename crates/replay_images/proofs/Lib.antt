@@ -1,0 +1,4 @@
+pub mod Put
+pub mod Widths
+pub mod OneAnswer
+pub mod RuledOut
