@@ -1,5 +1,4 @@
-/* check PAYLOAD ..: says of each payload, given in hexadecimal, which check belongs into its last byte, and whether it
- * is there. */
+/* check PAYLOAD ..: says of payloads in hexadecimal which check belongs into the last byte, and whether it is there. */
 #include <stdio.h>
 #include <string.h>
 
