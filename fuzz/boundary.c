@@ -1,6 +1,6 @@
-/* boundary COUNT SEED guard|heap FIRST STEP: calls every function of crsf.h with slices of every length up to 300, or of each
- * STEP-th from FIRST on, then COUNT times with slices drawn at random: any bytes, valid ones, and ones near them. It judges each
- * answer and every byte that was lent.
+/* boundary COUNT SEED guard|heap FIRST STEP: calls every function of crsf.h with slices of every length up to 300, a block's up to
+ * 520, or of each STEP-th from FIRST on, then COUNT times with slices drawn at random: any bytes, valid ones, and ones near them.
+ * It judges each answer and every byte that was lent, and makes each call twice.
  *
  * guard: each slice ends directly before a page that can't be touched, in a second turn it starts directly behind one, and const
  * slices lie in pages that can't be written: an access outside is a signal. heap: each slice is allocated at its length, for
@@ -16,6 +16,7 @@
 #include <unistd.h>
 
 #include "slices.h"
+#include "log.h"
 
 #if __has_include(<valgrind/memcheck.h>)
 #include <valgrind/memcheck.h>
@@ -25,8 +26,10 @@
 #define VALGRIND_CHECK_MEM_IS_DEFINED(at, len) 0
 #endif
 
-enum { MOST_SLICES = 3, NUMBERS = 9, AREA = 1 << 16 /* whole pages on any machine */ };
-enum { CHECK, TEXT, ACK, POPUP, POPUP_FIELDS, READ, WRITE, EDIT, EDIT_LIST, FUNCTIONS };
+enum { MOST_SLICES = 3, NUMBERS = 11, AREA = 1 << 16 /* whole pages on any machine */ };
+enum { CHECK, TEXT, ACK, POPUP, POPUP_FIELDS, READ, WRITE, EDIT, EDIT_LIST, REPLAY, FUNCTIONS };
+/* What is counted beside the answers: of lists, the answer bytes; of events, the kinds, and the numbers of two of them. */
+enum { EDITS_IN_LISTS = FUNCTIONS, KINDS_OF_EVENTS, REFUSED_RECORDS, DAMAGED_BLOCKS, ROWS };
 
 /* The numbers are those of 01's table; also 3 where an image is handed out, 5 where one is handed in, and 1 and 3 for a list's
  * form. The check has no refusal. */
@@ -45,13 +48,14 @@ static const struct {
     [WRITE] = {"crsf_write", "0235", 2, {RECORD, ROOM}, 0},
     [EDIT] = {"crsf_edit", "0124678", 1, {PAYLOAD_IN_PLACE}, 0},
     [EDIT_LIST] = {"crsf_edit_list", "013", 3, {PAYLOAD_IN_PLACE, EDITS, ROOM}, 0},
+    [REPLAY] = {"crsf_replay", "035", 3, {REPLAY_IN_PLACE, BLOCK, ROOM}, CRSF_EVENT_SIZE},
 };
 
 /* The call at hand. */
 static struct {
     int function, slices;
     struct slice {
-        uint8_t bytes[LONGEST + 8], *at; /* what was lent, and where it lies */
+        uint8_t bytes[LONGEST_BLOCK + 8], *at; /* what was lent, and where it lies */
         size_t len;
         enum content content;
     } slice[MOST_SLICES];
@@ -60,7 +64,7 @@ static struct {
 
 static enum { HEAP, ENDS, STARTS } turn;
 static size_t first_length, length_step;
-static unsigned long long seed, calls, answers[FUNCTIONS + 1][NUMBERS]; /* the last row: the answer bytes of lists */
+static unsigned long long seed, calls, answers[ROWS][NUMBERS];
 
 static _Noreturn void fail(const char *what, ...)
 {
@@ -104,22 +108,27 @@ static void draw(int function)
 {
     call.function = function;
     call.slices = functions[function].slices;
-    for (int i = 0; i < call.slices; i++) {
+    for (int turn = 0; turn < call.slices; turn++) {
+        const int i = function == REPLAY ? call.slices - 1 - turn : turn; /* a replay goes by its block, a list by its payload */
         struct slice *s = &call.slice[i];
         s->content = functions[function].contents[i];
-        put_any(s->bytes);
-        s->len = damaged(s->bytes, s->content == ROOM ? room() : put_valid(s->content, s->bytes, call.slice[0].bytes[2]));
+        const uint32_t most = longest_of(s->content);
+        put_any(s->bytes, most);
+        s->len = s->content == ROOM ? room() : put_valid(s->content, s->bytes, call.slice[0].bytes[2], call.slice[1].bytes);
+        s->len = damaged(s->bytes, s->len, most);
     }
-    call.numbers[0] = function == EDIT ? field(call.slice[0].bytes[2]) : below(256);
+    call.numbers[0] = function == EDIT ? field(call.slice[0].bytes[2]) : function == REPLAY ? (uint32_t)next() : below(256);
     call.numbers[1] = function == EDIT ? number() : below(256);
     call.numbers[2] = below(8) == 0 ? below(256) : below(2); /* an ACK's action */
 }
 
-/* A payload's last byte becomes right for the length it has now; one in four stays as it fell. */
+/* A payload's last byte becomes right for the length it has now, a block's for what it holds now; one in four stays as it fell. */
 static void renew_check(struct slice *s)
 {
     if ((s->content == PAYLOAD || s->content == PAYLOAD_IN_PLACE) && s->len > 0 && below(4) > 0)
         s->bytes[s->len - 1] = check_of(s->bytes, s->len);
+    if (s->content == BLOCK && s->len == CRSF_BLOCK_SIZE && below(4) > 0)
+        close_block(s->bytes);
 }
 
 /* LENDING */
@@ -177,7 +186,7 @@ static uint8_t *lend(int i, const struct slice *s)
 static void judge_number(int row, const char *numbers, uint32_t number)
 {
     if (number >= NUMBERS || strchr(numbers, '0' + (int)number) == NULL)
-        fail("may not answer %u%s", number, row == FUNCTIONS ? " to an edit" : "");
+        fail("may not answer %u%s", number, row == EDITS_IN_LISTS ? " to an edit" : "");
     answers[row][number]++;
 }
 
@@ -191,12 +200,12 @@ static void judge_count(uint32_t count, const struct slice *buffer)
         fail("counts %u, and the last byte is not the check", count);
 }
 
-/* How many bytes at the front of a slice an answer says to be written; of a payload in place, all may be. */
+/* How many bytes at the front of a slice an answer says to be written; in place, all may be. */
 static size_t said(const struct slice *s, uint32_t answer)
 {
     if (is_const(s) || CRSF_NUMBER(answer) != CRSF_ACCEPTED)
         return 0;
-    if (s->content == PAYLOAD_IN_PLACE)
+    if (s->content != ROOM)
         return s->len;
     return call.function == WRITE ? CRSF_COUNT(answer) : size_in_room();
 }
@@ -226,10 +235,35 @@ static size_t judge_list(const uint8_t *given)
 {
     size_t accepted = 0;
     for (size_t i = 0; i < size_in_room(); i++) {
-        judge_number(FUNCTIONS, functions[EDIT].numbers, given[i]);
+        judge_number(EDITS_IN_LISTS, functions[EDIT].numbers, given[i]);
         accepted += given[i] == CRSF_ACCEPTED;
     }
     return accepted;
+}
+
+static void judge_same(const char *what, const uint8_t *given, const uint8_t *expected, size_t len)
+{
+    for (size_t i = 0; i < len; i++)
+        if (given[i] != expected[i])
+            fail("%s otherwise from byte %zu on: %u, not %u", what, i, given[i], expected[i]);
+}
+
+/* The answer, and where it accepts the event and what is kept. */
+static void judge_replay(const struct slice *s, uint32_t number)
+{
+    uint8_t replay[CRSF_REPLAY_SIZE], event[CRSF_EVENT_SIZE];
+    const uint32_t expected = expected_answer(s[0].bytes, s[0].len, s[1].bytes, s[1].len, s[2].len);
+    if (number != expected)
+        fail("answers %u, not %u", number, expected);
+    if (number != CRSF_ACCEPTED)
+        return;
+    memcpy(replay, s[0].bytes, sizeof replay);
+    expect_event(replay, call.numbers[0], s[1].bytes, s[1].len, event);
+    judge_same("hands on", s[2].at, event, sizeof event);
+    judge_same("keeps", s[0].at, replay, sizeof replay);
+    answers[KINDS_OF_EVENTS][event[0]]++;
+    if (event[0] == CRSF_KIND_REFUSED || event[0] == CRSF_KIND_DAMAGED)
+        answers[event[0] == CRSF_KIND_REFUSED ? REFUSED_RECORDS : DAMAGED_BLOCKS][event[8]]++;
 }
 
 static void judge(uint32_t answer)
@@ -242,6 +276,8 @@ static void judge(uint32_t answer)
     judge_count(CRSF_COUNT(answer), call.function == WRITE && accepted ? &s[1] : NULL);
     if (CRSF_PLACE(answer) != 0)
         fail("may not answer place %u", CRSF_PLACE(answer));
+    if (call.function == REPLAY)
+        judge_replay(s, CRSF_NUMBER(answer));
     if (s[0].content == PAYLOAD_IN_PLACE) {
         const size_t edits = accepted && call.function == EDIT_LIST ? judge_list(s[2].at) : accepted;
         if (changed(&s[0], 0) > 5 * edits) /* each the bytes of a number, at most 4, and the check */
@@ -271,7 +307,8 @@ static uint32_t answer_of(const struct slice *s, const uint32_t *n)
     case READ: return crsf_read(s[0].at, s[0].len, s[1].at, s[1].len);
     case WRITE: return crsf_write(s[0].at, s[0].len, s[1].at, s[1].len);
     case EDIT: return crsf_edit(s[0].at, s[0].len, n[0], n[1]);
-    default: return crsf_edit_list(s[0].at, s[0].len, s[1].at, s[1].len, s[2].at, s[2].len);
+    case EDIT_LIST: return crsf_edit_list(s[0].at, s[0].len, s[1].at, s[1].len, s[2].at, s[2].len);
+    default: return crsf_replay(s[0].at, s[0].len, n[0], s[1].at, s[1].len, s[2].at, s[2].len);
     }
 }
 
@@ -297,16 +334,44 @@ static uint32_t spoiled(const struct slice *s, uint32_t answer)
     IF(11, WRITE, number == 0 && s[1].at[s[1].len - 1] == 7) seen = 7;
     IF(12, TEXT, number == 0) (void)VALGRIND_MAKE_MEM_UNDEFINED(s[1].at + CRSF_TEXT_SIZE - 1, 1);
     IF(13, TEXT, number == 0) for (;;) seen = 0;
+    IF(14, REPLAY, number == 0) seen = s[1].at[s[1].len];
+    IF(15, REPLAY, number != 0 && s[0].len > 0) s[0].at[0] ^= 1;
+    IF(16, REPLAY, number == 0 && s[2].at[0] == CRSF_KIND_GAP) s[2].at[0] = CRSF_KIND_STEP_BACK;
+    IF(17, REPLAY, number == 0 && s[2].at[0] == CRSF_KIND_COMMAND) s[2].at[1] = 1;
+    IF(18, REPLAY, number == 0 && s[2].at[0] == CRSF_KIND_DAMAGED) s[0].at[4] ^= 1;
+    IF(19, REPLAY, number == CRSF_RECORD_NOT_MADE && s[0].len == CRSF_REPLAY_SIZE) answer = CRSF_BUFFER_OVERFLOW;
+    IF(20, READ, number == 0) s[1].at[CRSF_RECORD_SOURCE] = seen++;
     return (void)seen, answer;
+}
+
+/* The same bytes lent once more: nothing is kept between calls, so all comes out as before. */
+static void call_again(uint32_t answer)
+{
+    uint8_t first[MOST_SLICES][LONGEST_BLOCK + 8];
+    for (int i = 0; i < call.slices; i++) {
+        const struct slice *s = &call.slice[i];
+        if (is_const(s) || s->len == 0)
+            continue;
+        memcpy(first[i], s->at, s->len);
+        memcpy(s->at, s->bytes, s->len);
+    }
+    if (spoiled(call.slice, answer_of(call.slice, call.numbers)) != answer)
+        fail("answers otherwise when called again");
+    for (int i = 0; i < call.slices; i++)
+        if (!is_const(&call.slice[i]) && call.slice[i].len > 0 && memcmp(first[i], call.slice[i].at, call.slice[i].len) != 0)
+            fail("leaves other bytes in slice %d when called again", i);
 }
 
 static void make_call(void)
 {
-    renew_check(&call.slice[0]);
-    for (int i = 0; i < call.slices; i++)
+    for (int i = 0; i < call.slices; i++) {
+        renew_check(&call.slice[i]);
         call.slice[i].at = lend(i, &call.slice[i]);
+    }
     calls++;
-    judge(spoiled(call.slice, answer_of(call.slice, call.numbers)));
+    const uint32_t answer = spoiled(call.slice, answer_of(call.slice, call.numbers));
+    judge(answer);
+    call_again(answer);
     for (int i = 0; turn == HEAP && i < call.slices; i++)
         free(call.slice[i].at);
 }
@@ -314,8 +379,9 @@ static void make_call(void)
 /* Each length of slice i with each of slice j; where both are the same, between pages with each kind of command. */
 static void every_length(int function, int i, int j)
 {
-    const size_t most = turn == HEAP ? 0 : i == j ? KINDS - 1 : LONGEST;
-    for (size_t a = first_length; a <= LONGEST; a += length_step)
+    const enum content *contents = functions[function].contents;
+    const size_t most = turn == HEAP ? 0 : i == j ? KINDS - 1 : longest_of(contents[j]);
+    for (size_t a = first_length; a <= longest_of(contents[i]); a += length_step)
         for (size_t b = 0; b <= most; b++) {
             draw(function);
             call.slice[j].len = b;
@@ -337,7 +403,7 @@ static void take_turn(int which, unsigned long long count)
     }
 }
 
-/* One line; false where a number that can be answered never was. */
+/* One line; false where a number that can be answered never was. The character behind 9 is 10. */
 static bool report(const char *name, const char *numbers, const unsigned long long *counts)
 {
     unsigned long long all = 0;
@@ -347,7 +413,7 @@ static bool report(const char *name, const char *numbers, const unsigned long lo
     printf("%-17s %8llu", name, all);
     for (; *numbers != '\0'; numbers++) {
         const unsigned long long count = counts[*numbers - '0'];
-        printf("  %c: %llu%s", *numbers, count, count > 0 ? "" : ", never answered");
+        printf("  %d: %llu%s", *numbers - '0', count, count > 0 ? "" : ", never answered");
         each = each && count > 0;
     }
     putchar('\n');
@@ -378,7 +444,10 @@ int main(int argc, char **argv)
     bool each = true;
     for (int i = 0; i < FUNCTIONS; i++)
         each = report(functions[i].name, functions[i].numbers, answers[i]) && each;
-    each = report("  edits in lists", functions[EDIT].numbers, answers[FUNCTIONS]) && each;
+    each = report("  edits in lists", functions[EDIT].numbers, answers[EDITS_IN_LISTS]) && each;
+    each = report("  kinds of events", "012345", answers[KINDS_OF_EVENTS]) && each;
+    each = report("  records refused", "124", answers[REFUSED_RECORDS]) && each;
+    each = report("  blocks damaged", "19:", answers[DAMAGED_BLOCKS]) && each;
     if (!each)
         return 1;
     printf("%llu calls, 0 outside\n", calls);

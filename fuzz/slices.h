@@ -5,10 +5,12 @@
 
 #include "crsf.h"
 
-enum { LONGEST = 300, KINDS = 30 };
+enum { LONGEST = 300, LONGEST_BLOCK = 520, KINDS = 30 };
 
-/* What a slice holds. The last two are not const: a payload is changed in place, room is written from its front. */
-enum content { BYTES, FIELDS, POPUP_IMAGE, RECORD, PAYLOAD, EDITS, PAYLOAD_IN_PLACE, ROOM };
+/* What a slice holds. The last three are not const: a payload and a replay are changed in place, room is written from its front. */
+enum content { BYTES, FIELDS, POPUP_IMAGE, RECORD, PAYLOAD, EDITS, BLOCK, PAYLOAD_IN_PLACE, REPLAY_IN_PLACE, ROOM };
+
+static uint32_t longest_of(enum content content) { return content == BLOCK ? LONGEST_BLOCK : LONGEST; }
 
 /* NUMBERS AND BYTES */
 
@@ -36,9 +38,17 @@ static uint8_t *put(uint8_t *at, int width, uint32_t number)
     return at;
 }
 
-static void put_any(uint8_t bytes[LONGEST + 8])
+static uint32_t number_at(const uint8_t *at, int width)
 {
-    for (size_t i = 0; i < LONGEST; i += 8) {
+    uint32_t number = 0;
+    while (width-- > 0)
+        number = number << 8 | *at++;
+    return number;
+}
+
+static void put_any(uint8_t bytes[LONGEST_BLOCK + 8], size_t len)
+{
+    for (size_t i = 0; i < len; i += 8) {
         const uint64_t eight = next();
         memcpy(bytes + i, &eight, 8);
     }
@@ -51,14 +61,21 @@ static uint32_t put_nonzero(uint8_t *bytes, uint32_t len)
     return len;
 }
 
-/* 01's division, bit by bit: 0xBA, highest bit first, no final change. */
+/* 01's division of one byte, bit by bit: 0xBA, highest bit first, no final change. */
+static uint8_t divided_byte(uint8_t remainder)
+{
+    for (int bit = 0; bit < 8; bit++)
+        remainder = (uint8_t)(remainder << 1 ^ (remainder & 0x80 ? 0xBA : 0));
+    return remainder;
+}
+
 static uint8_t divided(uint8_t remainder, const uint8_t *bytes, size_t len)
 {
-    for (size_t i = 0; i < len; i++) {
-        remainder ^= bytes[i];
-        for (int bit = 0; bit < 8; bit++)
-            remainder = (uint8_t)(remainder << 1 ^ (remainder & 0x80 ? 0xBA : 0));
-    }
+    static uint8_t known[256]; /* once: blocks are long */
+    for (int i = 1; known[255] == 0 && i < 256; i++)
+        known[i] = divided_byte((uint8_t)i);
+    for (size_t i = 0; i < len; i++)
+        remainder = known[remainder ^ bytes[i]];
     return remainder;
 }
 
@@ -185,10 +202,75 @@ static size_t put_edits(uint8_t *edits, uint8_t id)
     return len;
 }
 
+/* BLOCKS AND REPLAYS */
+
+/* "In the last byte a check of the other 511 by the command polynomial, without the 0x32 in front." */
+static void close_block(uint8_t *block) { block[CRSF_BLOCK_SIZE - 1] = divided(0, block, CRSF_BLOCK_SIZE - 1); }
+
+/* A payload, one in eight of them cut, or any bytes; of most the check is right. */
+static size_t put_logged(uint8_t *payload)
+{
+    size_t len = below(8) > 0 ? put_payload(payload) : put_nonzero(payload, within(CRSF_MIN_PAYLOAD, CRSF_MAX_PAYLOAD));
+    if (below(8) == 0)
+        len = within(CRSF_MIN_PAYLOAD, (uint32_t)len);
+    if (below(8) > 0)
+        payload[len - 1] = check_of(payload, len);
+    return len;
+}
+
+/* The record at a place; where it has no room, nothing. Returns the place behind it. */
+static size_t put_logged_at(uint8_t *block, size_t place)
+{
+    uint8_t payload[CRSF_MAX_PAYLOAD];
+    const size_t len = put_logged(payload);
+    if (place + 1 + len > CRSF_BLOCK_RECORDS + CRSF_MAX_USED)
+        return place;
+    block[place] = (uint8_t)len;
+    memcpy(block + place + 1, payload, len);
+    return place + 1 + len;
+}
+
+/* Up to four records; in one of sixteen, as many as fit. */
+static void put_block(uint8_t *block)
+{
+    size_t end = CRSF_BLOCK_RECORDS, last = 0;
+    memset(block, 0, CRSF_BLOCK_SIZE);
+    put(block + CRSF_BLOCK_NUMBER, 4, within(0, UINT32_MAX - 1) + below(2));
+    for (uint32_t left = below(16) == 0 ? 101 : below(5); left > 0 && end != last; left--) {
+        last = end;
+        end = put_logged_at(block, end);
+    }
+    put(block + CRSF_BLOCK_USED, 2, (uint32_t)(end - CRSF_BLOCK_RECORDS));
+    close_block(block);
+}
+
+/* Of one of the first records of a block, or near it. */
+static uint32_t place_in(const uint8_t *block)
+{
+    const uint32_t end = CRSF_BLOCK_RECORDS + number_at(block + CRSF_BLOCK_USED, 2);
+    uint32_t place = CRSF_BLOCK_RECORDS;
+    for (uint32_t steps = below(8); steps > 0 && place + 1 + block[place] < end && end < CRSF_BLOCK_SIZE; steps--)
+        place += 1 + block[place];
+    return below(8) == 0 ? within(0, CRSF_BLOCK_SIZE) : place;
+}
+
+/* New, between two blocks, or in the middle of this one; its number is that before the block's, or near it, or any. */
+static void put_replay(uint8_t *replay, const uint8_t *block)
+{
+    const uint32_t which = below(8);
+    memset(replay, 0, CRSF_REPLAY_SIZE);
+    if (which == 0)
+        return;
+    replay[CRSF_REPLAY_STARTED] = 1;
+    put(replay + CRSF_REPLAY_BLOCK, 4, which == 1 ? (uint32_t)next() : number_at(block + CRSF_BLOCK_NUMBER, 4) - below(4) + 1);
+    if (which > 3)
+        put(replay + CRSF_REPLAY_PLACE, 2, place_in(block));
+}
+
 /* ANY OF THEM, AND ONES NEAR IT */
 
-/* Returns the length; id is that of the payload to edit. */
-static size_t put_valid(enum content content, uint8_t *bytes, uint8_t id)
+/* Returns the length; id is that of the payload to edit, block that which a replay is to go on with. */
+static size_t put_valid(enum content content, uint8_t *bytes, uint8_t id, const uint8_t *block)
 {
     switch (content) {
     case FIELDS: return put_fields(bytes), CRSF_POPUP_FIELDS_SIZE;
@@ -197,19 +279,21 @@ static size_t put_valid(enum content content, uint8_t *bytes, uint8_t id)
     case PAYLOAD:
     case PAYLOAD_IN_PLACE: return put_payload(bytes);
     case EDITS: return put_edits(bytes, id);
+    case BLOCK: return put_block(bytes), CRSF_BLOCK_SIZE;
+    case REPLAY_IN_PLACE: return put_replay(bytes, block), CRSF_REPLAY_SIZE;
     default: return put_nonzero(bytes, within(0, 56)); /* a text or information */
     }
 }
 
 /* Half stay valid; the others are any bytes, cut, longer, or have a byte changed: anywhere, or from 2 to 7, where records and
- * payloads have their id, sub-command and first values. Returns the length. */
-static size_t damaged(uint8_t bytes[LONGEST + 8], size_t length)
+ * payloads have their id, sub-command and first values, and blocks their used count and first length. Returns the length. */
+static size_t damaged(uint8_t bytes[LONGEST_BLOCK + 8], size_t length, uint32_t most)
 {
     const uint32_t len = (uint32_t)length;
     switch (below(10)) {
-    case 0: return put_any(bytes), below(LONGEST + 1);
+    case 0: return put_any(bytes, most), below(most + 1);
     case 1: return below(len + 1);
-    case 2: return len + 8 < LONGEST ? len + below(8) : LONGEST;
+    case 2: return len + 8 < most ? len + below(8) : most;
     case 3: return put(bytes + below(len + 1), 1, within(0, 255)), len;
     case 4: return put(bytes + 2 + below(6), 1, within(0, 255)), len;
     default: return len;

@@ -34,6 +34,18 @@ pub const POPUP_FIELDS_SIZE: usize = 268;
 /// Bytes of an edit in a list: field, then number, 4 each.
 pub const EDIT_SIZE: usize = 8;
 
+/// Bytes of a block of the log.
+pub const BLOCK_SIZE: usize = 512;
+
+/// The most bytes that the records of a block take.
+pub const MAX_USED: usize = 505;
+
+/// Bytes of the image of a replay, the state kept between blocks and between the events of one.
+pub const REPLAY_SIZE: usize = 7;
+
+/// Bytes of the image of an event.
+pub const EVENT_SIZE: usize = 80;
+
 /// What a word says: 0, accepted, or the number of a refusal.
 #[inline]
 pub const fn number(word: u32) -> u8 {
@@ -80,6 +92,15 @@ extern "C" {
         popup_len: usize,
         fields: *mut u8,
         fields_len: usize,
+    ) -> u32;
+    fn crsf_replay(
+        replay: *mut u8,
+        replay_len: usize,
+        position: u32,
+        block: *const u8,
+        len: usize,
+        event: *mut u8,
+        event_len: usize,
     ) -> u32;
     fn crsf_check(bytes: *const u8, len: usize, start: u8) -> u8;
 }
@@ -178,6 +199,23 @@ pub fn popup_fields(popup: &[u8], fields: &mut [u8]) -> u32 {
             popup.len(),
             fields.as_mut_ptr(),
             fields.len(),
+        )
+    }
+}
+
+/// Hands on the next event of a block of the log; a damaged block goes by `position`. `replay` is changed in place.
+#[inline]
+pub fn replay(replay: &mut [u8], position: u32, block: &[u8], event: &mut [u8]) -> u32 {
+    // SAFETY: all slices are valid for the call, and `replay` and `event` are ours alone.
+    unsafe {
+        crsf_replay(
+            replay.as_mut_ptr(),
+            replay.len(),
+            position,
+            block.as_ptr(),
+            block.len(),
+            event.as_mut_ptr(),
+            event.len(),
         )
     }
 }

@@ -23,7 +23,7 @@ use crate::boundary;
 #[derive(Debug, Clone, Copy, PartialEq, Eq)]
 #[repr(u8)]
 pub enum CrsfParsingError {
-    /// A payload, text or information that is too short or too long.
+    /// A payload, text or information that is too short or too long; a block of the log that is not 512 bytes.
     InvalidPayloadLength = 1,
     /// A wrong check, an unknown id or sub-command, a value out of range.
     InvalidPayload = 2,
@@ -31,7 +31,7 @@ pub enum CrsfParsingError {
     BufferOverflow = 3,
     /// Command id 0x03 (Bluetooth) or 0x13 (RC over WiFi).
     FamilyLeftBehind = 4,
-    /// Bytes that are the image of no record. The types here hold none, so that only [`boundary`] can be given one.
+    /// Bytes that are the image of no record, or of no replay. The types here hold none, so that only [`boundary`] can be given one.
     RecordNotMade = 5,
     /// An edit of a payload that can be read, though writing what it says gives other bytes.
     NotAsWritten = 6,
@@ -39,10 +39,14 @@ pub enum CrsfParsingError {
     NoSuchField = 7,
     /// An edit to a number that the field cannot hold.
     NumberOutsideRange = 8,
+    /// A block of the log whose check is another.
+    BlockCheck = 9,
+    /// A block of the log with a wrong used count or length of a record, or with a byte behind its records that is not 0.
+    BlockLayout = 10,
 }
 
 impl CrsfParsingError {
-    /// The number by which the C functions, and answers to a list of edits, know it.
+    /// The number by which the C functions, answers to a list of edits and events of a log know it.
     pub const fn number(self) -> u8 {
         self as u8
     }
@@ -58,6 +62,8 @@ impl CrsfParsingError {
             6 => Self::NotAsWritten,
             7 => Self::NoSuchField,
             8 => Self::NumberOutsideRange,
+            9 => Self::BlockCheck,
+            10 => Self::BlockLayout,
             _ => return None,
         })
     }
@@ -72,6 +78,8 @@ impl CrsfParsingError {
             Self::NotAsWritten => "not as written",
             Self::NoSuchField => "no such field",
             Self::NumberOutsideRange => "number outside range",
+            Self::BlockCheck => "block check",
+            Self::BlockLayout => "block layout",
         }
     }
 }
@@ -88,9 +96,14 @@ impl Error for CrsfParsingError {}
 pub(crate) fn answer(word: u32) -> Result<usize, CrsfParsingError> {
     match boundary::number(word) {
         0 => Ok(boundary::count(word)),
-        number => match CrsfParsingError::from_number(number) {
-            Some(refusal) => Err(refusal),
-            None => unreachable!("the C functions answer 0 to 8, not {number}"),
-        },
+        number => Err(refusal(number)),
+    }
+}
+
+/// The refusal of a number that C gave for one.
+pub(crate) fn refusal(number: u8) -> CrsfParsingError {
+    match CrsfParsingError::from_number(number) {
+        Some(refusal) => refusal,
+        None => unreachable!("the C functions refuse with 1 to 10, not {number}"),
     }
 }

@@ -1,4 +1,4 @@
-//! Commands, ACKs and a popup's fields as the images that cross to C, and back (`include/crsf.h`, "IMAGES").
+//! Commands, ACKs, a popup's fields, replays and events as the images that cross to C, and back (`include/crsf.h`, "IMAGES").
 //!
 //! Every image that comes back from C is that of a record, so that taking one out needs no answer for another.
 use core::fmt;
@@ -7,10 +7,12 @@ use crate::boundary::ACK_SIZE;
 use crate::packets::CommandAck;
 
 mod fields;
+mod log;
 mod numbers;
 mod record;
 
 pub(crate) use fields::{fields, of_fields};
+pub(crate) use log::{between_blocks, event, last_block, more};
 pub(crate) use record::{command, of_command};
 
 use numbers::{ACK_ACTION, ACK_COMMAND_ID, ACK_LENGTH, ACK_STORED_SIZE, ACK_SUB_COMMAND_ID};

@@ -1,11 +1,13 @@
 //! The crate's public numbers are those of include/crsf.h. What lies in images is held to it beside the code (src/image/numbers.rs).
+mod blocks;
 mod header;
 mod laid;
 mod payloads;
 
+use blocks::block;
 use crsf::boundary::{
-    self, ACK_SIZE, EDIT_SIZE, MAX_INFORMATION, MAX_PAYLOAD, MAX_POPUP, MAX_TEXT,
-    POPUP_FIELDS_SIZE, POPUP_SIZE, RECORD_SIZE, TEXT_SIZE,
+    self, ACK_SIZE, BLOCK_SIZE, EDIT_SIZE, EVENT_SIZE, MAX_INFORMATION, MAX_PAYLOAD, MAX_POPUP,
+    MAX_TEXT, MAX_USED, POPUP_FIELDS_SIZE, POPUP_SIZE, RECORD_SIZE, REPLAY_SIZE, TEXT_SIZE,
 };
 use crsf::packets::{CrsfPacket, DirectCommands};
 use crsf::{edit_list, CrsfParsingError, Edit, Field};
@@ -13,7 +15,7 @@ use header::Names;
 use laid::{record, Laid};
 use payloads::{payload, M1, M3, M3_EDITED};
 
-const REFUSALS: [(&str, CrsfParsingError); 8] = [
+const REFUSALS: [(&str, CrsfParsingError); 10] = [
     (
         "INVALID_PAYLOAD_LENGTH",
         CrsfParsingError::InvalidPayloadLength,
@@ -25,6 +27,8 @@ const REFUSALS: [(&str, CrsfParsingError); 8] = [
     ("NOT_AS_WRITTEN", CrsfParsingError::NotAsWritten),
     ("NO_SUCH_FIELD", CrsfParsingError::NoSuchField),
     ("OUTSIDE_RANGE", CrsfParsingError::NumberOutsideRange),
+    ("WRONG_BLOCK_CHECK", CrsfParsingError::BlockCheck),
+    ("WRONG_BLOCK_LAYOUT", CrsfParsingError::BlockLayout),
 ];
 
 /// The header's name of a field: `FIELD_PIT_MODE` of `PitMode`.
@@ -39,7 +43,7 @@ fn named(field: Field) -> (String, u32) {
     (name, field.number())
 }
 
-const SIZES: [(&str, usize); 11] = [
+const SIZES: [(&str, usize); 15] = [
     ("MIN_PAYLOAD", DirectCommands::MIN_PAYLOAD_SIZE),
     ("MAX_PAYLOAD", MAX_PAYLOAD),
     ("MAX_TEXT", MAX_TEXT),
@@ -51,6 +55,10 @@ const SIZES: [(&str, usize); 11] = [
     ("POPUP_SIZE", POPUP_SIZE),
     ("POPUP_FIELDS_SIZE", POPUP_FIELDS_SIZE),
     ("EDIT_SIZE", EDIT_SIZE),
+    ("BLOCK_SIZE", BLOCK_SIZE),
+    ("MAX_USED", MAX_USED),
+    ("REPLAY_SIZE", REPLAY_SIZE),
+    ("EVENT_SIZE", EVENT_SIZE),
 ];
 
 /// Cargo.toml's.
@@ -60,8 +68,17 @@ const VERSION: [(&str, &str); 3] = [
     ("VERSION_PATCH", env!("CARGO_PKG_VERSION_PATCH")),
 ];
 
-/// What the header names and the crate shows by what it does: `accepted_is_no_refusal`, `an_edit_lies_as_the_header_says`.
-const SHOWN: [&str; 3] = ["ACCEPTED", "EDIT_FIELD", "EDIT_NUMBER"];
+/// What the header names and the crate shows by what it does: `accepted_is_no_refusal`, `an_edit_lies_as_the_header_says`,
+/// `a_block_lies_as_the_header_says`.
+const SHOWN: [&str; 7] = [
+    "ACCEPTED",
+    "EDIT_FIELD",
+    "EDIT_NUMBER",
+    "BLOCK_NUMBER",
+    "BLOCK_USED",
+    "BLOCK_RECORDS",
+    "BLOCK_CHECK",
+];
 
 /// Both ways: each is the header's, and the header has no other.
 #[test]
@@ -227,4 +244,102 @@ fn an_ack_goes_into_a_record_as_the_header_says() {
         .put("RECORD_VALUES", values)
         .put("RECORD_LENGTH", stored);
     crosses(&record.image, &payload(0xFF, b"\x09\x05\x01shift\0"));
+}
+
+/// A block put together by the header's places is the one that document 02's words give, and sound.
+#[test]
+fn a_block_lies_as_the_header_says() {
+    let record = [&[5][..], &M1].concat();
+    let laid = Laid::<BLOCK_SIZE>::new()
+        .put("BLOCK_NUMBER", &0x0102_0304u32.to_be_bytes())
+        .put("BLOCK_USED", &6u16.to_be_bytes())
+        .put("BLOCK_RECORDS", &record);
+    let end = laid.at("BLOCK_CHECK");
+    let check = boundary::check(&laid.image[..end], 0);
+    let laid = laid.put("BLOCK_CHECK", &[check]);
+    assert_eq!(laid.image, block(0x0102_0304, &[&M1]));
+
+    let mut event = [0xA5; EVENT_SIZE];
+    assert_eq!(
+        boundary::replay(&mut [0; REPLAY_SIZE], 0, &laid.image, &mut event),
+        0
+    );
+    assert_eq!(event[laid.at("EVENT_KIND")], laid.at("KIND_COMMAND") as u8);
+    assert_eq!(usize::from(event[7]), laid.at("BLOCK_RECORDS"));
+    assert_eq!(end, BLOCK_SIZE - 1);
+    assert_eq!(laid.at("BLOCK_RECORDS") + MAX_USED, end);
+}
+
+type Kept = Laid<REPLAY_SIZE>;
+type Told = Laid<EVENT_SIZE>;
+
+/// After a sound block of that number, with the next record at that place.
+fn kept(number: u32, place: u16) -> Kept {
+    Kept::new()
+        .put("REPLAY_STARTED", &[1])
+        .put("REPLAY_BLOCK", &number.to_be_bytes())
+        .put("REPLAY_PLACE", &place.to_be_bytes())
+}
+
+/// An event of a block, with the blank record: disarm with both addresses 0.
+fn told(kind: &str, more: u8, number: u32) -> Told {
+    let blank = Laid::<RECORD_SIZE>::new()
+        .named("RECORD_ID", "FC")
+        .named("RECORD_SUB_COMMAND", "FC_FORCE_DISARM");
+    Told::new()
+        .named("EVENT_KIND", kind)
+        .put("EVENT_MORE", &[more])
+        .put("EVENT_BLOCK", &number.to_be_bytes())
+        .put("EVENT_RECORD", &blank.image)
+}
+
+/// One call: from a replay, with a block at position 0x0A0B0C0D, to a replay and an event.
+fn hands_on(before: &Kept, block: &[u8], after: &Kept, event: &Told) {
+    let (mut replay, mut handed) = (before.image, [0xA5; EVENT_SIZE + 1]);
+    assert_eq!(
+        boundary::replay(&mut replay, 0x0A0B_0C0D, block, &mut handed),
+        0
+    );
+    assert_eq!(replay, after.image);
+    assert_eq!(handed[..EVENT_SIZE], event.image);
+    assert_eq!(handed[EVENT_SIZE], 0xA5);
+}
+
+/// Every kind of event, and what is kept behind it, by the header's places.
+#[test]
+fn replays_and_events_lie_as_the_header_says() {
+    const NUMBER: u32 = 0x8182_8384;
+    let frequency = record("VTX", "VTX_SET_FREQUENCY").put("RECORD_VALUES", &5800u16.to_be_bytes());
+    let left_behind = payload(0x03, &[]);
+    // records at 6, 6 + 1 + 7 and 14 + 1 + 4
+    let three = block(NUMBER, &[&M3, &left_behind, &M3]);
+    let none = block(NUMBER, &[]);
+    let new = Kept::new;
+
+    let command = |more, place| {
+        told("KIND_COMMAND", more, NUMBER)
+            .put("EVENT_PLACE", &[0, place])
+            .put("EVENT_RECORD", &frequency.image)
+    };
+    let refused = told("KIND_REFUSED", 1, NUMBER)
+        .put("EVENT_PLACE", &[0, 14])
+        .named("EVENT_NUMBER", "FAMILY_LEFT_BEHIND");
+    hands_on(&new(), &three, &kept(NUMBER, 14), &command(1, 6));
+    hands_on(&kept(NUMBER, 14), &three, &kept(NUMBER, 19), &refused);
+    hands_on(&kept(NUMBER, 19), &three, &kept(NUMBER, 0), &command(0, 19));
+
+    let nothing = told("KIND_NOTHING", 0, NUMBER);
+    hands_on(&new(), &none, &kept(NUMBER, 0), &nothing);
+    let damaged = told("KIND_DAMAGED", 0, 0x0A0B_0C0D).named("EVENT_NUMBER", "WRONG_BLOCK_CHECK");
+    let mut wrong = three;
+    wrong[511] ^= 1;
+    hands_on(&new(), &wrong, &new(), &damaged);
+    hands_on(&kept(5, 0), &wrong, &kept(5, 0), &damaged);
+
+    let gap = |more| told("KIND_GAP", more, NUMBER);
+    let back = |more| told("KIND_STEP_BACK", more, NUMBER);
+    hands_on(&kept(5, 0), &three, &kept(NUMBER, 6), &gap(1));
+    hands_on(&kept(NUMBER, 0), &three, &kept(NUMBER, 6), &back(1));
+    hands_on(&kept(5, 0), &none, &kept(NUMBER, 0), &gap(0));
+    hands_on(&kept(NUMBER, 0), &none, &kept(NUMBER, 0), &back(0));
 }

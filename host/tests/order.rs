@@ -1,14 +1,17 @@
 //! "What a function refuses stands at the function, in the order in which it looks: the first that holds is the answer" (include/crsf.h).
 //! Each case has the refusal that it shows, and as many of those behind it as go together.
+mod blocks;
 mod header;
 mod laid;
 mod payloads;
 
+use blocks::{block, closed, laid_out};
 use crsf::boundary::{
-    self, ACK_SIZE, MAX_PAYLOAD, POPUP_FIELDS_SIZE, POPUP_SIZE, RECORD_SIZE, TEXT_SIZE,
+    self, ACK_SIZE, BLOCK_SIZE, EVENT_SIZE, MAX_PAYLOAD, POPUP_FIELDS_SIZE, POPUP_SIZE,
+    RECORD_SIZE, REPLAY_SIZE, TEXT_SIZE,
 };
 use laid::{record, Laid};
-use payloads::{payload, M2, M3};
+use payloads::{payload, M1, M2, M3};
 
 type Record = [u8; RECORD_SIZE];
 type Fields = Laid<POPUP_FIELDS_SIZE>;
@@ -156,4 +159,114 @@ fn popups_look_at_room_the_image_possible_values_and_each_field() {
     assert_eq!(shown(&[], POPUP_FIELDS_SIZE - 1), 3);
     assert_eq!(shown(&[4], POPUP_FIELDS_SIZE), 5);
     assert_eq!(shown(&[0; POPUP_SIZE], POPUP_FIELDS_SIZE), 5);
+}
+
+/// A replay after a sound block 7, whose next record is at that place.
+fn midway(place: u16) -> [u8; REPLAY_SIZE] {
+    let [high, low] = place.to_be_bytes();
+    [1, 0, 0, 0, 7, high, low]
+}
+
+/// The answer; a refusal leaves the replay and the event as they were.
+fn replayed(replay: &[u8], block: &[u8], room: usize) -> u32 {
+    let (mut after, mut event) = (replay.to_vec(), vec![0xA5; room]);
+    let answer = boundary::replay(&mut after, 0, block, &mut event);
+    if answer != 0 {
+        assert_eq!((&after[..], event), (replay, vec![0xA5; room]));
+    }
+    answer
+}
+
+#[test]
+fn replay_looks_at_room_its_length_its_limits_and_the_record_at_its_place() {
+    // two records of 6 bytes, at 6 and 12
+    let two = block(8, &[&M1, &M1]);
+    let five = |replay: &[u8], block: &[u8]| assert_eq!(replayed(replay, block, EVENT_SIZE), 5);
+    let none = |replay: &[u8], block: &[u8]| assert_eq!(replayed(replay, block, EVENT_SIZE), 0);
+
+    assert_eq!(replayed(&[2], &[], EVENT_SIZE - 1), 3);
+    five(&[], &two);
+    five(&[0; REPLAY_SIZE - 1], &two);
+    five(&[0; REPLAY_SIZE + 1], &two);
+    none(&[0; REPLAY_SIZE], &two);
+
+    // limits: a flag; not started, all zeros; a place of 0 or 6 to 511
+    for (at, byte) in [(0, 2), (1, 1), (4, 1), (5, 1), (6, 12)] {
+        let mut replay = [0; REPLAY_SIZE];
+        replay[at] = byte;
+        five(&replay, &two);
+    }
+    for place in [1, 5, 512, 0x0C00, 0xFFFF] {
+        five(&midway(place), &two);
+    }
+
+    // the record there: of a block of 512 bytes, with a used count up to 505, 4 to 60 bytes long and within the used bytes
+    none(&midway(6), &two);
+    none(&midway(12), &two);
+    five(&midway(12), &two[..511]);
+    five(&midway(12), &[&two[..], &[0]].concat());
+    five(&midway(18), &two); // behind the used bytes
+    five(&midway(7), &two); // C8 is no length
+    five(&midway(511), &two);
+    let lengths = [(3, 5), (4, 0), (60, 0), (61, 5)];
+    for (length, answer) in lengths {
+        let mut bytes = [0; 62];
+        bytes[0] = length;
+        let one = laid_out(8, 62, &bytes);
+        assert_eq!(replayed(&midway(6), &one, EVENT_SIZE), answer, "{length}");
+    }
+    five(&midway(6), &laid_out(8, 5, &[5, 0, 0, 0, 0, 0]));
+    none(&midway(6), &laid_out(8, 6, &[5, 0, 0, 0, 0, 0]));
+    none(&midway(6), &laid_out(8, 505, &[5]));
+    five(&midway(6), &laid_out(8, 506, &[5]));
+}
+
+/// "The block is not judged a second time": neither its check nor its layout, and its number is not compared.
+#[test]
+fn in_the_middle_of_a_block_another_is_gone_on_with() {
+    let (mut replay, mut event) = ([0; REPLAY_SIZE], [0; EVENT_SIZE]);
+    let two = block(7, &[&M1, &M1]);
+    assert_eq!(boundary::replay(&mut replay, 0, &two, &mut event), 0);
+    assert_eq!(replay, midway(12));
+
+    // M1, then M3 at 12, then a length that no record has, filler that is not 0, and a check that is wrong
+    let bytes = [&[5][..], &M1, &[7], &M3, &[3, 0, 0, 0, 1]].concat();
+    let mut other = laid_out(99, 18, &bytes);
+    other[511] ^= 1;
+    assert_eq!(boundary::replay(&mut replay, 0, &other, &mut event), 0);
+    // a command of block 99 at 12, with more behind it at 12 + 8; the replay keeps 7
+    assert_eq!(event[..8], [1, 1, 0, 0, 0, 99, 0, 12]);
+    assert_eq!(event[12..14], [0x08, 0x02]);
+    assert_eq!(replay, midway(20));
+    // no record stands there
+    assert_eq!(boundary::replay(&mut replay, 0, &other, &mut event), 5);
+}
+
+/// "Refusals: 1 for a block that isn't 512 bytes, then 9 block check, then 10 block layout".
+#[test]
+fn a_damaged_block_is_1_then_9_then_10() {
+    let damage = |block: &[u8]| {
+        let mut event = [0; EVENT_SIZE];
+        assert_eq!(
+            boundary::replay(&mut [0; REPLAY_SIZE], 0, block, &mut event),
+            0
+        );
+        assert_eq!(event[0], 3);
+        event[8]
+    };
+    let mut all = laid_out(7, 506, &[3]);
+    assert_eq!(damage(&all), 10);
+    all[511] ^= 1;
+    assert_eq!(damage(&all), 9);
+    assert_eq!(damage(&all[..BLOCK_SIZE - 1]), 1);
+    assert_eq!(damage(&[&all[..], &[0]].concat()), 1);
+    assert_eq!(damage(&[]), 1);
+    // the residue is no check: the polynomial has the factor x
+    let mut residue = block(7, &[&M1]);
+    let front = boundary::check(&residue[..511], 0);
+    let other = (0..=255).find(|byte| *byte != front && boundary::check(&[*byte], front) == 0);
+    residue[511] = other.expect("a byte that leaves residue 0");
+    assert_eq!(boundary::check(&residue, 0), 0);
+    assert_eq!(damage(&residue), 9);
+    assert_eq!(damage(&closed(residue, 1)), 9);
 }

@@ -1,13 +1,16 @@
-//! Every number of document 01's table is had through the crate, with its name and words; and what a refusal leaves as it was.
+//! Every number of document 01's table, and those of the log, are had through the crate, with their names and words; and what a refusal
+//! leaves as it was.
+mod blocks;
 mod payloads;
 
+use blocks::{block, closed, laid_out, Block};
 use crsf::boundary::{self, POPUP_FIELDS_SIZE, POPUP_SIZE, RECORD_SIZE};
 use crsf::packets::{
     CommandAck, CommandPayload, CommandString, CrsfPacket, DirectCommands, FcCommand,
     ScreenAdditionalData, ScreenPopup, ScreenPopupFields, ScreenSelection, VtxCommand,
 };
 use crsf::CrsfParsingError::{self, *};
-use crsf::{edit, edit_list, Edit, Field};
+use crsf::{edit, edit_list, Edit, Event, Field, Replay};
 use payloads::{command, payload, M2, M3, M3_EDITED};
 
 fn read(payload: &[u8]) -> CrsfParsingError {
@@ -31,9 +34,16 @@ fn record_not_made() -> CrsfParsingError {
     CrsfParsingError::from_number(boundary::number(word)).unwrap()
 }
 
-/// 1, 2 and 4 by M5, 3 by M10, 5 by "Made", 6 by M2, 7 and 8 by M4.
+fn damaged(block: Block) -> CrsfParsingError {
+    match Replay::new().block(0, &block).next() {
+        Some(Event::Damaged { position: 0, error }) => error,
+        other => panic!("{other:?}"),
+    }
+}
+
+/// 1, 2 and 4 by M5, 3 by M10, 5 by "Made", 6 by M2, 7 and 8 by M4, 9 and 10 by document 02's block log.
 #[test]
-fn each_of_the_eight() {
+fn each_of_the_ten() {
     let disarm = command(CommandPayload::Fc(FcCommand::ForceDisarm));
     let had = [
         (
@@ -68,7 +78,18 @@ fn each_of_the_eight() {
             NumberOutsideRange,
             "number outside range (8)",
         ),
+        (
+            damaged(closed(block(7, &[&M3]), 1)),
+            BlockCheck,
+            "block check (9)",
+        ),
+        (
+            damaged(laid_out(7, 506, &[])),
+            BlockLayout,
+            "block layout (10)",
+        ),
     ];
+    assert_eq!(had.len(), 10);
     for ((refusal, expected, text), number) in had.into_iter().zip(1..) {
         assert_eq!(refusal, expected);
         assert_eq!(refusal.number(), number);

@@ -87,6 +87,28 @@ pub const ADDITIONAL_ABSENT: u8 = 0;
 pub const ADDITIONAL_EMPTY: u8 = 1;
 pub const ADDITIONAL_SELECTION: u8 = 2;
 
+// Places in the image of a replay
+pub const REPLAY_STARTED: usize = 0;
+pub const REPLAY_BLOCK: usize = 1;
+pub const REPLAY_PLACE: usize = 5;
+
+// Places in the image of an event
+pub const EVENT_KIND: usize = 0;
+pub const EVENT_MORE: usize = 1;
+pub const EVENT_BLOCK: usize = 2;
+pub const EVENT_PLACE: usize = 6;
+pub const EVENT_NUMBER: usize = 8;
+pub const EVENT_PAYLOAD_PLACE: usize = 9;
+pub const EVENT_RECORD: usize = 10;
+
+// Kinds of events
+pub const KIND_NOTHING: u8 = 0;
+pub const KIND_COMMAND: u8 = 1;
+pub const KIND_REFUSED: u8 = 2;
+pub const KIND_DAMAGED: u8 = 3;
+pub const KIND_GAP: u8 = 4;
+pub const KIND_STEP_BACK: u8 = 5;
+
 #[cfg(test)]
 mod tests {
     use super::*;
@@ -126,6 +148,10 @@ mod tests {
             POPUP_FIELDS_HAS_POSSIBLE_VALUES POPUP_FIELDS_POSSIBLE_VALUES
 
             ADDITIONAL_ABSENT ADDITIONAL_EMPTY ADDITIONAL_SELECTION
+
+            REPLAY_STARTED REPLAY_BLOCK REPLAY_PLACE
+            EVENT_KIND EVENT_MORE EVENT_BLOCK EVENT_PLACE EVENT_NUMBER EVENT_PAYLOAD_PLACE EVENT_RECORD
+            KIND_NOTHING KIND_COMMAND KIND_REFUSED KIND_DAMAGED KIND_GAP KIND_STEP_BACK
         };
         // what `Stored` takes for granted: a length, and the bytes right behind it
         let stored = [

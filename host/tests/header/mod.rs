@@ -8,8 +8,8 @@ use std::vec::Vec;
 /// Numbers by their names, without the `CRSF_` before each.
 pub type Names = BTreeMap<String, u32>;
 
-/// Of all that the header names, what lies in images (ids, sub-commands, places, kinds), or else the rest: refusals, fields, edits, sizes
-/// of whole images, limits and the version. No name stands twice.
+/// Of all that the header names, what lies in images (ids, sub-commands, places, kinds), or else the rest: refusals, fields, edits, places
+/// in a block of the log, sizes of whole images, limits and the version. No name stands twice.
 pub fn names(in_images: bool) -> Names {
     let header = code();
     let mut all = enums(&header);
@@ -43,7 +43,15 @@ pub fn version() -> String {
 
 fn lies_in_images(name: &str) -> bool {
     let parts = ["ACK_VALUES_SIZE", "ACK_STORED_SIZE"];
-    let others = ["FRAME_TYPE", "MIN_", "MAX_", "VERSION_", "FIELD_", "EDIT_"];
+    let others = [
+        "FRAME_TYPE",
+        "MIN_",
+        "MAX_",
+        "VERSION_",
+        "FIELD_",
+        "EDIT_",
+        "BLOCK_",
+    ];
     let other = name.ends_with("_SIZE") || others.iter().any(|other| name.starts_with(other));
     parts.contains(&name) || !other
 }

@@ -8,11 +8,10 @@ pub const M2: [u8; 6] = [0xC8, 0xEA, 0x01, 0x01, 0x00, 0xFE];
 pub const M3: [u8; 7] = [0xC8, 0xEA, 0x08, 0x02, 0x16, 0xA8, 0x0E];
 pub const M3_EDITED: [u8; 7] = [0xC8, 0xEA, 0x08, 0x02, 0x13, 0x88, 0x90];
 
-/// Document 01's check, by division bit by bit: the remainder of byte 0x32 and all payload bytes but the last, times x^8, divided by
-/// x^8+x^7+x^5+x^4+x^3+x.
-pub fn check(all_but_last: &[u8]) -> u8 {
+/// By division bit by bit: the remainder of the message, times x^8, divided by x^8+x^7+x^5+x^4+x^3+x.
+pub fn remainder<'a>(message: impl IntoIterator<Item = &'a u8>) -> u8 {
     let mut remainder: u16 = 0;
-    for byte in [0x32].iter().chain(all_but_last) {
+    for byte in message {
         remainder ^= u16::from(*byte) << 8;
         for _ in 0..8 {
             remainder = match remainder & 0x8000 {
@@ -22,6 +21,11 @@ pub fn check(all_but_last: &[u8]) -> u8 {
         }
     }
     (remainder >> 8) as u8
+}
+
+/// Document 01's check of a payload: "byte 0x32, then all payload bytes but the last".
+pub fn check(all_but_last: &[u8]) -> u8 {
+    remainder([0x32].iter().chain(all_but_last))
 }
 
 /// The payload from EA to C8 with this id and body.
