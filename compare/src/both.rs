@@ -1,8 +1,10 @@
 //! One input given to both sides: the answer's word and every lent byte have to be the same.
 use std::fmt::Debug;
+use std::hint::black_box;
 use std::panic::resume_unwind;
 
 use crate::popups::Popup;
+use crate::replay_image::{EVENT_SIZE, KIND, MORE, NUMBER, REFUSED};
 use crate::side::Side;
 use crate::theirs::{self, RUST};
 use crate::types::Judged;
@@ -25,8 +27,41 @@ pub struct Both<'a> {
     pub cases: u64,
     /// Of these, payloads of the families left behind: there document 01 answers, not the Rust.
     pub left_behind: u64,
+    /// Of these, blocks of the log that were judged: the first event of each.
+    pub blocks: u64,
     pub differing: u64,
     pub first: Option<String>,
+}
+
+/// What a call of the replay answers, and what it leaves of the bytes lent to it.
+#[derive(Debug, PartialEq)]
+struct Replayed {
+    word: u32,
+    state: Vec<u8>,
+    event: Vec<u8>,
+    /// The block is given, not lent.
+    block_kept: bool,
+}
+
+impl Replayed {
+    fn by(side: &Side, state: &[u8], position: u32, block: &[u8], room: usize) -> Self {
+        let mut lent = [state, &[LENT; BEHIND]].concat();
+        let mut event = vec![LENT; room + BEHIND];
+        let given = block.to_vec();
+        let word = (side.replay)(
+            &mut lent[..state.len()],
+            position,
+            &given,
+            &mut event[..room],
+        );
+        Replayed {
+            word,
+            state: lent,
+            event,
+            // a function of C could change it all the same
+            block_kept: black_box(&given) == block,
+        }
+    }
 }
 
 impl<'a> Both<'a> {
@@ -35,6 +70,7 @@ impl<'a> Both<'a> {
             side,
             cases: 0,
             left_behind: 0,
+            blocks: 0,
             differing: 0,
             first: None,
         }
@@ -142,6 +178,28 @@ impl<'a> Both<'a> {
             let call = |side: &Side, lent: &mut [u8]| (side.popup_fields)(&popup, lent);
             self.lending(fields::SIZE, call, || format!("inspect {popup:02X?}"));
         }
+    }
+
+    /// One event into so many bytes. The state is left as the Rust leaves it; whether it says that there is more.
+    pub fn replay(&mut self, state: &mut [u8], position: u32, block: &[u8], room: usize) -> bool {
+        let ours = Replayed::by(self.side, state, position, block, room);
+        let theirs = Replayed::by(&RUST, state, position, block, room);
+        let accepted = theirs.word == 0;
+        let refused = |number: u8| theirs.event[KIND] == REFUSED && theirs.event[NUMBER] == number;
+        self.left_behind += u64::from(accepted && refused(4));
+        self.blocks += u64::from(accepted && state.ends_with(&[0, 0]));
+        let more = accepted && theirs.event[MORE] == 1;
+        let after = theirs.state[..state.len()].to_vec();
+        self.note(ours, theirs, || {
+            format!("replay {state:02X?}, position {position}, {block:02X?} into {room} bytes")
+        });
+        state.copy_from_slice(&after);
+        more
+    }
+
+    /// A block handed in again while there is more.
+    pub fn replay_block(&mut self, state: &mut [u8], position: u32, block: &[u8]) {
+        while self.replay(state, position, block, EVENT_SIZE) {}
     }
 
     pub fn check(&mut self, bytes: &[u8], start: u8) {

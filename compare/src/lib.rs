@@ -1,5 +1,7 @@
 //! What the comparison, the makers of stored answers and the benchmark share: both sides of the C boundary and of the types over it,
 //! and input for them.
+pub mod block_cases;
+pub mod blocks;
 pub mod both;
 pub mod cases;
 pub mod changes;
@@ -13,6 +15,10 @@ pub mod ours;
 pub mod popups;
 pub mod random;
 pub mod records;
+pub mod replay;
+pub mod replay_image;
+pub mod replay_runs;
+pub mod replay_text;
 pub mod runs;
 pub mod side;
 pub mod stored;

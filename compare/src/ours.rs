@@ -28,6 +28,7 @@ pub const OURS: Side = Side {
     ack,
     popup: boundary::popup,
     popup_fields: boundary::popup_fields,
+    replay: boundary::replay,
     check: boundary::check,
     types: types::host::TYPES,
     until_first: false,

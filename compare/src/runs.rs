@@ -4,14 +4,14 @@ use crate::image::{KINDS, SCREEN};
 use crate::popups::{self, Popup};
 use crate::random::Random;
 use crate::side::Side;
-use crate::{cases, edit_cases, every, fields, image};
+use crate::{cases, edit_cases, every, fields, image, replay_runs};
 
 /// No payload is longer than 60 bytes, no buffer here than this.
 const LONGEST: usize = 70;
 
 pub type Run = for<'a> fn(&'a Side, u64, u64) -> Both<'a>;
 
-pub const ALL: [(&str, Run); 23] = [
+pub const ALL: [(&str, Run); 30] = [
     ("check, up to 2 bytes in full", short_checks),
     ("check, at random", random_checks),
     ("read, every id with up to 2 bytes of body", short_payloads),
@@ -35,15 +35,25 @@ pub const ALL: [(&str, Run); 23] = [
     ("types, read and written, near every kind", types_commands),
     ("types, texts and ACKs, at random", types_made),
     ("types, popups of every length, fields", types_popups),
+    ("replay, blocks of every fill", replay_runs::fills),
+    ("replay, block numbers at their edges", replay_runs::numbers),
+    (
+        "replay, one byte damaged at every place",
+        replay_runs::damaged,
+    ),
+    ("replay, used counts, lengths, filler", replay_runs::layouts),
+    ("replay, slices of every length", replay_runs::slices),
+    ("replay, states of every kind", replay_runs::states),
+    ("replay, logs at random", replay_runs::logs),
 ];
 
-fn run<'a>(side: &'a Side, work: impl FnOnce(&mut Both<'a>)) -> Both<'a> {
+pub(crate) fn run<'a>(side: &'a Side, work: impl FnOnce(&mut Both<'a>)) -> Both<'a> {
     let mut both = Both::new(side);
     work(&mut both);
     both
 }
 
-fn at_random<'a>(
+pub(crate) fn at_random<'a>(
     side: &'a Side,
     rounds: u64,
     seed: u64,

@@ -8,6 +8,9 @@ use crate::types::Types;
 /// What is given, and what is lent.
 pub type Lending = fn(&[u8], &mut [u8]) -> u32;
 
+/// Of the state and the event both are lent.
+pub type Replay = fn(&mut [u8], u32, &[u8], &mut [u8]) -> u32;
+
 #[derive(Clone, Copy)]
 pub struct Side {
     /// Payload, record image.
@@ -28,6 +31,8 @@ pub struct Side {
     pub popup: Lending,
     /// Popup image, image of fields.
     pub popup_fields: Lending,
+    /// State, position, block, event: the state is changed in place.
+    pub replay: Replay,
     /// Bytes, start.
     pub check: fn(&[u8], u8) -> u8,
     /// What a Rust host uses.

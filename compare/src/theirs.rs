@@ -1,6 +1,6 @@
 //! The Rust, put behind the same boundary. What it does not have is document 01's: 4 for the families that are left behind, 5 for what
 //! its types cannot hold, a lent slice that keeps its bytes where the answer is a refusal, and edits, put together from its reading, its
-//! types and its writing.
+//! types and its writing. The replay is document 02's, over its reading.
 use uf_crsf::packets::{
     CommandAck, CommandString, CrsfPacket, DirectCommands, ScreenPopup, COMMAND_CRC_ALGO,
 };
@@ -10,12 +10,13 @@ use crate::changes::Change;
 use crate::edits;
 use crate::fields;
 use crate::image;
+use crate::replay_image;
 use crate::side::Side;
 use crate::types::{self, Types};
 
 const LENGTH: u32 = 1;
 const OVERFLOW: u32 = 3;
-const LEFT_BEHIND: u32 = 4;
+pub const LEFT_BEHIND: u32 = 4;
 const NOT_MADE: u32 = 5;
 const NOT_AS_WRITTEN: u32 = 6;
 
@@ -248,6 +249,7 @@ pub const RUST: Side = Side {
     ack,
     popup,
     popup_fields,
+    replay: replay_image::replay,
     check,
     types: TYPES,
     until_first: false,

@@ -1,4 +1,5 @@
 //! Any slice has an answer: none, a null pointer, too short a one for an image, and one far longer than a payload.
+use compare::block_cases;
 use compare::both::LENT;
 use compare::edits;
 use compare::ours::OURS;
@@ -18,6 +19,15 @@ extern "C" {
         edits_len: usize,
         answers: *mut u8,
         answers_len: usize,
+    ) -> u32;
+    fn crsf_replay(
+        replay: *mut u8,
+        replay_len: usize,
+        position: u32,
+        block: *const u8,
+        len: usize,
+        event: *mut u8,
+        event_len: usize,
     ) -> u32;
 }
 
@@ -52,6 +62,52 @@ fn null_pointers_with_length_0_are_slices() {
     let (from, to) = (edit.as_ptr(), answers.as_mut_ptr());
     assert_eq!(unsafe { crsf_edit_list(nothing, 0, from, 8, to, 2) }, 0);
     assert_eq!(answers, [1, LENT]);
+}
+
+#[test]
+fn null_pointers_with_length_0_are_slices_of_a_replay() {
+    let (none, nothing) = (std::ptr::null(), std::ptr::null_mut());
+    assert_eq!(
+        unsafe { crsf_replay(nothing, 0, 1, none, 0, nothing, 0) },
+        3
+    );
+    let (mut state, mut event) = ([0; 7], [LENT; 80]);
+    let (at, to) = (state.as_mut_ptr(), event.as_mut_ptr());
+    assert_eq!(unsafe { crsf_replay(nothing, 0, 1, none, 0, to, 80) }, 5);
+    assert_eq!(unsafe { crsf_replay(at, 7, 1, none, 0, nothing, 0) }, 3);
+    assert_eq!((state, event), ([0; 7], [LENT; 80]));
+    assert_eq!(unsafe { crsf_replay(at, 7, 1, none, 0, to, 80) }, 0);
+    assert_eq!(state, [0; 7]);
+    assert_eq!(event[..10], [3, 0, 0, 0, 0, 1, 0, 0, 1, 0]);
+}
+
+/// The block is only given. Here no reference of Rust's says that it stays as it is.
+#[test]
+fn a_replay_leaves_its_block() {
+    let disarm = block_cases::record(&[0xC8, 0xEA, 0x01, 0x01, 0xFE]);
+    let sound = block_cases::sound(5, &[&disarm[..], &disarm].concat());
+    let damaged = [&sound[..511], &[!sound[511]]].concat();
+    let mut state = [0; 7];
+    for given in [&sound, &sound, &damaged] {
+        let (mut block, mut event) = (given.clone(), [LENT; 80]);
+        let (at, from, to) = (state.as_mut_ptr(), block.as_mut_ptr(), event.as_mut_ptr());
+        assert_eq!(unsafe { crsf_replay(at, 7, 1, from, 512, to, 80) }, 0);
+        assert_eq!(block, *given);
+    }
+    assert_eq!(state, [1, 0, 0, 0, 5, 0, 0]);
+}
+
+#[test]
+fn a_megabyte_of_block_is_damaged_and_one_of_event_has_its_image_at_its_front() {
+    let (mut state, mut event) = ([0; 7], vec![LENT; 1 << 20]);
+    let block = vec![0; 1 << 20];
+    assert_eq!((OURS.replay)(&mut state, 7, &block, &mut event), 0);
+    assert_eq!(event[..10], [3, 0, 0, 0, 0, 7, 0, 0, 1, 0]);
+    assert!(event[80..].iter().all(|byte| *byte == LENT));
+    assert_eq!(
+        (OURS.replay)(&mut vec![0; 1 << 20], 7, &block, &mut event),
+        5
+    );
 }
 
 #[test]

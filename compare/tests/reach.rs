@@ -1,8 +1,10 @@
 //! The random input reaches what it is meant to: every length, and of every kind each answer that there is.
 use std::collections::BTreeSet;
 
+use compare::block_cases::{self, Payloads};
 use compare::image::KINDS;
 use compare::random::Random;
+use compare::replay_image::{COMMAND, DAMAGED, GAP, NOTHING, REFUSED, STEP_BACK};
 use compare::side::number;
 use compare::theirs::RUST;
 use compare::{cases, edit_cases, edits, fields, image};
@@ -176,4 +178,105 @@ fn images_go_there_and_back() {
         let read = fields::fields(&given).expect("fields that the Rust can hold");
         assert_eq!(fields::fields(&fields::of(&read)), Some(read));
     }
+}
+
+/// The events of a block by the Rust, from a state on, until it has no more or is refused; the last answer.
+fn replayed(state: &mut [u8], block: &[u8], mut visit: impl FnMut(&[u8; 80])) -> u32 {
+    loop {
+        let mut event = [0; 80];
+        let word = (RUST.replay)(state, 1, block, &mut event);
+        if word == 0 {
+            visit(&event);
+        }
+        if word != 0 || event[1] == 0 {
+            return word;
+        }
+    }
+}
+
+#[test]
+fn blocks_at_random_have_every_event() {
+    let mut random = Random(1);
+    let payloads = Payloads::new(&mut random, 40);
+    let (mut events, mut families) = (BTreeSet::new(), BTreeSet::new());
+    let (mut number, mut state) = (7, [0; 7]);
+    for _ in 0..2 * ROUNDS {
+        number = block_cases::number_after(&mut random, number);
+        let mut block = payloads.block(&mut random, number);
+        if random.once_in(4) {
+            block_cases::damage(&mut random, &mut block);
+        }
+        let word = replayed(&mut state, &block, |event| {
+            events.insert((event[0], event[8]));
+            if event[0] == COMMAND {
+                families.insert(event[12]);
+            }
+        });
+        assert_eq!(word, 0);
+    }
+    let every = [
+        (NOTHING, 0),
+        (COMMAND, 0),
+        (REFUSED, 1),
+        (REFUSED, 2),
+        (REFUSED, 4),
+        (DAMAGED, 1),
+        (DAMAGED, 9),
+        (DAMAGED, 10),
+        (GAP, 0),
+        (STEP_BACK, 0),
+    ];
+    assert_eq!(events, BTreeSet::from(every));
+    assert_eq!(families, BTreeSet::from(image::FAMILIES));
+}
+
+#[test]
+fn blocks_have_every_fill_and_up_to_101_records() {
+    let mut random = Random(1);
+    let payloads = Payloads::new(&mut random, 40);
+    let mut counts = BTreeSet::new();
+    for fill in (0..=505).filter(|fill| !(1..5).contains(fill)) {
+        for longest in [5, 12, 30, 61] {
+            let records = payloads.records(&mut random, fill, longest);
+            assert_eq!(records.len(), fill);
+            let block = block_cases::sound(1, &records);
+            let mut count = 0;
+            let word = replayed(&mut [0; 7], &block, |event| {
+                assert!(
+                    [COMMAND, REFUSED].contains(&event[0]) || fill == 0,
+                    "{fill} bytes"
+                );
+                count += usize::from(event[0] != NOTHING);
+            });
+            assert_eq!((word, count), (0, block_cases::places(&block).len()));
+            counts.insert(count);
+        }
+    }
+    assert_eq!(counts, (0..=101).collect());
+}
+
+/// A state at random is taken at the start of a block and within one, and refused.
+#[test]
+fn states_at_random_are_taken_and_refused() {
+    let mut random = Random(1);
+    let payloads = Payloads::new(&mut random, 40);
+    let mut reached = BTreeSet::new();
+    for _ in 0..2 * ROUNDS {
+        let mut state = block_cases::state(&mut random);
+        let begins = state.ends_with(&[0, 0]);
+        let before = state.clone();
+        let block = payloads.block(&mut random, 1);
+        let word = (RUST.replay)(&mut state, 1, &block, &mut [0; 80]);
+        assert!(word == 0 || state == before);
+        reached.insert((before.len() == 7, begins, word));
+    }
+    let every = [
+        (true, true, 0),
+        (true, true, 5),
+        (true, false, 0),
+        (true, false, 5),
+        (false, true, 5),
+        (false, false, 5),
+    ];
+    assert_eq!(reached, BTreeSet::from(every));
 }

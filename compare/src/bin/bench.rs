@@ -3,16 +3,19 @@
 //! bench fields: prints the fields that are edited.
 //!
 //! SIDE is ours or rust. WHAT is check, or again:FAMILY, read:FAMILY, write:FAMILY, edit:FIELD, list:FIELD (ours alone; COUNT is that of
-//! the edits), or edit or list, which take all fields by turns.
+//! the edits), or edit or list, which take all fields by turns, or replay, of which a call is a whole block, event by event.
 use std::hint::black_box;
 use std::time::Instant;
 
+use compare::block_cases;
 use compare::cases::payload;
 use compare::changes::{self, Row, ROWS};
 use compare::edits;
 use compare::every::ADDRESSES;
 use compare::image::{self, FAMILIES};
 use compare::ours::OURS;
+use compare::replay::{self, Event, Replay};
+use compare::replay_image::{EVENT_SIZE, MORE, STATE_SIZE};
 use compare::theirs::{self, RUST};
 use uf_crsf::packets::{CrsfPacket, DirectCommands};
 
@@ -161,6 +164,62 @@ fn list(row: Row, times: u64) {
     );
 }
 
+/// A record of a family, by its place in FAMILIES.
+fn record_of(place: usize) -> Vec<u8> {
+    block_cases::record(&payload(ADDRESSES, FAMILIES[place], BODIES[place].1))
+}
+
+/// A sound block of commands, and how many it has: each family three times, and two popups more, which leave room for no third.
+fn log_block() -> (Vec<u8>, u64) {
+    const POPUP: usize = 7;
+    let each = (0..3).flat_map(|_| 0..FAMILIES.len());
+    let records: Vec<Vec<u8>> = each.chain([POPUP, POPUP]).map(record_of).collect();
+    let block = block_cases::sound(1, &records.concat());
+    let mut commands = 0;
+    replay::log(&block, |event| {
+        assert!(matches!(event, Event::Command { .. }), "{event:?}");
+        commands += 1;
+    });
+    assert_eq!(commands, records.len() as u64);
+    (block, commands)
+}
+
+/// A whole block, event by event: into an image by ours, as a value by the Rust's.
+fn replay(ours: bool, times: u64) {
+    let (block, commands) = log_block();
+    let mut events = 0;
+    if ours {
+        let mut event = [0; EVENT_SIZE];
+        repeated(times, || {
+            let mut state = [0; STATE_SIZE];
+            loop {
+                black_box((OURS.replay)(
+                    black_box(&mut state),
+                    0,
+                    black_box(&block),
+                    black_box(&mut event),
+                ));
+                events += 1;
+                if event[MORE] == 0 {
+                    break;
+                }
+            }
+        });
+    } else {
+        repeated(times, || {
+            let mut state = Replay::default();
+            loop {
+                black_box(black_box(&mut state).step(0, black_box(&block)));
+                events += 1;
+                if !state.more() {
+                    break;
+                }
+            }
+        });
+    }
+    assert_eq!(events, times * commands, "was not replayed");
+}
+
 /// The rows of a field, or of all.
 fn rows(field: &str) -> impl Iterator<Item = Row> + '_ {
     ROWS.into_iter()
@@ -190,20 +249,23 @@ fn main() {
         "write" => write(&of_family(), ours, count),
         "edit" => rows(which).for_each(|row| edit(row, ours, count)),
         "list" => rows(which).for_each(|row| list(row, count)),
-        _ => panic!("check, again, read, write, edit or list"),
+        "replay" => replay(ours, count),
+        _ => panic!("check, again, read, write, edit, list or replay"),
     };
     match words.get(2) {
         Some(count) => work(count.parse().expect("a count")),
         None => {
             const CALLS: u64 = 1_000_000;
-            let calls = match words[0].as_str() {
-                "edit" | "list" => CALLS / ROWS.len() as u64 / 16 * 16,
-                _ => CALLS,
+            // what each is given, and what that is in calls
+            let (count, calls) = match words[0].as_str() {
+                "edit" | "list" => (CALLS / ROWS.len() as u64 / 16 * 16, CALLS),
+                "replay" => (CALLS / 50, CALLS / 50),
+                _ => (CALLS, CALLS),
             };
-            work(calls / 10);
+            work(count / 10);
             let began = Instant::now();
-            work(calls);
-            println!("{:.1}", began.elapsed().as_nanos() as f64 / CALLS as f64);
+            work(count);
+            println!("{:.1}", began.elapsed().as_nanos() as f64 / calls as f64);
         }
     }
 }

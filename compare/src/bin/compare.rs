@@ -20,6 +20,9 @@ fn main() -> ExitCode {
         let both = run(&OURS, rounds, seed);
         let (some, other) = (both.cases, both.differing);
         print!("{kind:<42} {some:>10} cases, {other} differ");
+        if both.blocks > 0 {
+            print!(" ({} blocks)", both.blocks);
+        }
         match both.left_behind {
             0 => println!(),
             left => println!(" ({left} of families left behind, held to document 01)"),

@@ -4,6 +4,7 @@ mod checks;
 mod editors;
 mod makers;
 mod readers;
+mod replays;
 mod types;
 mod writers;
 
@@ -93,5 +94,12 @@ fn a_wrong_list_of_edits_is_seen() {
 fn a_wrong_type_is_seen() {
     for &(what, run, types) in types::TYPES {
         is_seen(what, run, &Side { types, ..RUST });
+    }
+}
+
+#[test]
+fn a_wrong_replay_is_seen() {
+    for &(what, run, replay) in replays::REPLAYS {
+        is_seen(what, run, &Side { replay, ..RUST });
     }
 }
