@@ -8,6 +8,7 @@ pub mod Stops
 pub mod Patch
 pub mod Narrow
 pub mod Forth
+pub mod Numbers
 pub mod Joins
 pub mod Writes
 pub mod Packed

@@ -1,5 +1,6 @@
 pub mod TextLaws
 pub mod WordLaws
+pub mod NumberLaws
 pub mod AckLaws
 pub mod PopupLaws
 pub mod FieldsPut

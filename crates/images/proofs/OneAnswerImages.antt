@@ -12,6 +12,8 @@ use Rattle.images.proofs.word.refused.Reads as refused
 use Rattle.images.proofs.word.refused.Kinds as refused-kinds
 use Rattle.images.proofs.word.written.Reads as written
 use Rattle.images.proofs.word.written.Kinds as written-kinds
+use Rattle.images.proofs.number.at.Reads as number-at
+use Rattle.images.proofs.number.at.Kinds as number-at-kinds
 use Rattle.images.proofs.stored.put.Reads as stored
 use Rattle.images.proofs.stored.put.Kinds as stored-kinds
 use Rattle.images.proofs.ack.put.Reads as ack
@@ -32,6 +34,9 @@ refused-one κs a x y s t p q = p ∙ sym q
 
 pub written-one : AnyTwo 0 written-kinds.ps written-kinds.r written.Post (λ κs x y s t. x ≡ y)
 written-one κs a x y s t p q = p ∙ sym q
+
+pub number-at-one : AnyTwo 1 number-at-kinds.ps number-at-kinds.r number-at.Post (λ κs x y s t. x ≡ y)
+number-at-one κs a x y s t p q = p ∙ sym q
 
 pub stored-one : AnyTwo 2 stored-kinds.ps stored-kinds.r stored.Post (λ κs x y s t. now (s .1 .1 .0) ≡ now (t .1 .1 .0))
 stored-one κs a x y s t p q = p ∙ sym q

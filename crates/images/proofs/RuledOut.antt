@@ -19,6 +19,7 @@ use Rattle.families.specs.declared.screen.ScreenAdditionalData.the-variants.{Se
 use Rattle.commands.specs.Command.{blankCommand}
 use Rattle.images.specs.Text.{textImage}
 use Rattle.images.specs.Word.{word, answerWord}
+use Rattle.images.specs.Number.{numberAt}
 use Rattle.images.specs.Ack.{ackImage}
 use Rattle.images.specs.Popup.{popupImage, popupFrom}
 use Rattle.images.specs.Fields.{fieldsImage}
@@ -33,6 +34,15 @@ word-refused = refl
 -- ---- word::written (and must-fail/count_of_place, count_in_low_bits)
 pub word-written : answerWord (toldWritten (Count 5)) ≡ 0x500
 word-written = refl
+
+-- ---- number::at (and must-fail/number_at_front)
+-- the highest byte first, from its place on
+pub number-high-first : numberAt (9 ∷ 1 ∷ 2 ∷ 3 ∷ 4 ∷ 9 ∷ []) 1 4 ≡ 0x01020304
+number-high-first = refl
+
+-- a byte too few: not the number of those that are there
+pub number-not-there : numberAt (1 ∷ 2 ∷ 3 ∷ []) 0 4 ≡ 0
+number-not-there = refl
 
 -- ---- stored::put, of a text
 -- no image is half put

@@ -1,5 +1,6 @@
 pub mod Text
 pub mod Word
+pub mod Number
 pub mod Ack
 pub mod Popup
 pub mod Fields

@@ -1,4 +1,3 @@
 pub mod Put
-pub mod Widths
 pub mod OneAnswer
 pub mod RuledOut

@@ -4,17 +4,13 @@ use mathlib.Core.Bool.{Bool}
 use mathlib.Core.List.{List, [], _∷_, _++_}
 use mathlib.Core.Path.{_≡_, refl, ap, sym, _∙_}
 use native.Mathlib.Omega.{arith}
-use lib.ListN.{length, take, drop, length-append, length-drop}
-use lib.Seq.{sets, length-sets, length-take-le}
-use borrow.Rule.Slice.PartMut.{putMid}
+use lib.ListN.{length, length-append}
+use lib.Seq.{sets}
 use Rattle.codec.specs.Digits.{bytesOf}
 use Rattle.codec.specs.Writing.{putAt}
 use Rattle.codec.specs.Told.{bit}
 use Rattle.codec.proofs.Digits.{split-high}
-use Rattle.codec.proofs.Loops.{sets-append}
 use Rattle.codec.proofs.Writes.{put-first, put-start, put-on}
-use Rattle.commands.proofs.Closed.{part-put}
-use Rattle.commands.specs.declared.DirectCommands.{DirectCommands}
 use Rattle.images.specs.Record.{recordImage}
 use Rattle.images.proofs.RecordLaws.{record-size}
 use Rattle.replay.specs.declared.Kind.{Kind}
@@ -62,16 +58,3 @@ pub event-size : (more : Bool) (e : Event) → length (e .command .bytes) ≡ 55
 event-size more e l =
     length-append (headImage (e .kind) more (e .block) (e .place) (e .number) (e .«payload_place»)) (recordImage (e .command))
     ∙ ap (λ (n : ℕ). 10 + n) (record-size (e .command) l)
-
--- the record behind the ten bytes of the head
-pub event-put : (h : List ℕ) (c : DirectCommands) (s s1 q : List ℕ) → 80 ≤ length s → length h ≡ 10 → length (c .bytes) ≡ 55
-    → s1 ≡ sets s 0 h → q ≡ putAt (take 70 (drop 10 s1)) 0 (recordImage c) → putMid 10 70 s1 q ≡ putAt s 0 (h ++ recordImage c)
-event-put h c s s1 q l m n e f =
-    let r = record-size c n in
-    let k : length s1 ≡ length s = ap length e ∙ length-sets s 0 h in
-    let d : length (take 70 (drop 10 s1)) ≡ 70 = length-take-le 70 (drop 10 s1) (rw length-drop (omega arith)) in
-    let g : q ≡ sets (take 70 (drop 10 s1)) 0 (recordImage c) = f ∙ put-first (take 70 (drop 10 s1)) (recordImage c) (omega arith) in
-    let p : putMid 10 70 s1 q ≡ sets s1 10 (recordImage c) = rw g (part-put s1 (recordImage c) 10 70 (omega arith) (omega arith)) in
-    let o : 0 + length h ≡ 10 = omega arith in
-    let w : length (h ++ recordImage c) ≤ length s = rw (length-append h (recordImage c)) (omega arith) in
-    p ∙ rw e (sym (rw o at (sets-append h (recordImage c) s 0))) ∙ sym (put-first s (h ++ recordImage c) w)

@@ -1,12 +1,7 @@
 // The image of a replay, the state kept between events.
 ghost use mathlib.Core.Path.{_≡_};
-ghost use Prim.Native.Nat.{_+_, _≤_};
-ghost use lib.ListN.{length, take, drop};
-ghost use Rattle.codec.specs.Digits.{numberOf};
 ghost use Rattle.codec.specs.Writing.{putAt};
-ghost use Rattle.codec.specs.Told.{widthOf};
 ghost use Rattle.replay_images.specs.State.{stateImage, stateFrom, toldState};
-use codec::reader::NumberRead;
 use codec::reader::Width;
 use codec::refusal::Refusal;
 use replay::Replay;
@@ -25,17 +20,6 @@ pub enum StateRead {
     Refused(Refusal),
 }
 
-// The number in a width's bytes at a place.
-fn number_in(image: &[u8], at: usize, width: Width) -> u32
-    requires { ⌜ at + widthOf width ≤ length (now image) ⌝ }
-    ensures { λ r. ⌜ r ≡ numberOf (take (widthOf width) (drop at (now (image .entry)))) ⌝ }
-{
-    match codec::reader::read_number(image, at, width, 0, u32::MAX) {
-        NumberRead::Got(number) => number,
-        NumberRead::Refused(_) => 0,
-    }
-}
-
 // The state of an image; of other bytes 5.
 pub fn from(image: &[u8]) -> StateRead
     ensures { λ r. ⌜ toldState r ≡ stateFrom (now (image .entry)) ⌝ }
@@ -49,8 +33,8 @@ pub fn from(image: &[u8]) -> StateRead
     }
     StateRead::Got(Replay {
         started: started == 1,
-        number: number_in(image, REPLAY_NUMBER, Width::Four),
-        place: number_in(image, REPLAY_PLACE, Width::Two) as usize,
+        number: images::number::at(image, REPLAY_NUMBER, Width::Four),
+        place: images::number::at(image, REPLAY_PLACE, Width::Two) as usize,
     })
 }
 

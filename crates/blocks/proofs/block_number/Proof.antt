@@ -3,7 +3,7 @@ use native.Mathlib.Omega.{arith}
 use borrow.Author.Needs.{needs}
 use denote.Ref.{now}
 use Rattle.crc.proofs.Laws.{bytes-of}
-use Rattle.blocks.proofs.Numbers.{number-got, number-not}
+use Rattle.codec.proofs.Numbers.{number-got, number-not}
 use Rattle.blocks.proofs.block_number.Statement.{statement}
 use Rattle.blocks.proofs.block_number.Tie as tie
 

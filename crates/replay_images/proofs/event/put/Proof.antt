@@ -4,10 +4,11 @@ use lib.ListN.{length}
 use denote.Ref.{now}
 use contract.Lifetimes.{Lfts}
 use borrow.Fn.Kinds.{Dens, Plain}
-use Rattle.images.proofs.TextLaws.{front-not}
+use Rattle.images.specs.Record.{recordImage}
+use Rattle.images.proofs.TextLaws.{front-not, behind-put}
 use Rattle.images.proofs.RecordLaws.{record-size}
 use Rattle.replay_images.specs.Event.{headImage, eventImage}
-use Rattle.replay_images.proofs.Put.{event-put, event-size}
+use Rattle.replay_images.proofs.Put.{event-size}
 use borrow.Author.Needs.{needs}
 use Rattle.replay_images.proofs.event.put.Statement.{statement}
 use Rattle.replay_images.proofs.event.put.Tie as tie
@@ -32,8 +33,9 @@ returns-2 c =
     let at-if = at-head .before .before .before in
     let at-start = at-if .before .before in
     let event = at-start .args .event in
-    event-put (headImage (event .kind) (at-start .args .more) (event .block) (event .place) (event .number) (event .«payload_place»))
-    (event .command) (now (at-start .args .out)) _ _ (at-if .if1 .left) refl (long at-start) (at-head .put-head .ensures) (at-put .put .ensures)
+    behind-put (headImage (event .kind) (at-start .args .more) (event .block) (event .place) (event .number) (event .«payload_place»))
+    (recordImage (event .command)) (now (at-start .args .out)) _ _ 10 70 (at-if .if1 .left) refl (record-size (event .command) (long at-start))
+    (at-head .put-head .ensures) (at-put .put .ensures)
 
 -- ---- what the toolchain asks for, and finds
 put-head-requires : tie.Need-put-head-requires

@@ -1,7 +1,10 @@
 -- `state::from` meets its contract. Assumes nothing.
+use mathlib.Core.Path.{_∙_}
+use native.Mathlib.Omega.{arith}
 use borrow.Author.Tests.{eq-eqb, ne-eqb, le-leb, lt-leb}
 use lib.ListN.{length, getD}
 use denote.Ref.{now}
+use Rattle.images.proofs.NumberLaws.{number-there}
 use borrow.Author.Needs.{needs}
 use Rattle.replay_images.proofs.state.from.Statement.{statement}
 use Rattle.replay_images.proofs.state.from.Tie as tie
@@ -26,19 +29,19 @@ returns-3 c =
     rw (
       eq-eqb (length image) 7 (at-size .if1 .left),
       le-leb (getD image 0 0) 1 (at-started .if2 .left),
-      at-number .number-in .ensures,
-      c .number-in2 .ensures,
+      at-number .at .ensures ∙ number-there image 1 4 (omega arith),
+      c .at2 .ensures ∙ number-there image 5 2 (omega arith),
     )
 
 -- ---- what the toolchain asks for, and finds
 shared-slice-read-started : tie.Need-shared-slice-read-started
 shared-slice-read-started c = search needs
 
-number-in-requires : tie.Need-number-in-requires
-number-in-requires c κs = search needs
+at-requires : tie.Need-at-requires
+at-requires c κs = search needs
 
-number-in-requires-2 : tie.Need-number-in-requires-2
-number-in-requires-2 c κs = search needs
+at-requires-2 : tie.Need-at-requires-2
+at-requires-2 c κs = search needs
 
 cast-t3 : tie.Need-cast-t3
 cast-t3 c = search needs
@@ -50,7 +53,7 @@ from-spec =
     returns
     shared-slice-read-started
     returns-2
-    number-in-requires
-    number-in-requires-2
+    at-requires
+    at-requires-2
     cast-t3
     returns-3)
