@@ -14,17 +14,17 @@ use Rattle.codec.specs.declared.writer.Written.the-variants.{Count, Refused as 
 use Rattle.codec.specs.declared.refusal.Refusal.the-variants.{BufferOverflow}
 use Rattle.codec.proofs.InTurn.{writes-stop, writes-all, item-goes}
 use Rattle.codec.proofs.Writes.{out-told}
-use Rattle.text.specs.Pieces.{hexOf, decimal, space, newline}
+use Rattle.text.specs.Pieces.{hexOf, decimal, space, numberedText, readWord, refusedWord}
 use Rattle.text.proofs.Digits.{bits64, decimal-length, end-length}
 use Rattle.text.proofs.Behind.{behind-none, behind-some}
-use Rattle.listing.specs.Text.{readWord, refusedWord, textOf, longestText, PutsText}
+use Rattle.listing.specs.Text.{textOf, longestText, PutsText}
 use Rattle.listing.specs.declared.line.Line.{Line}
 use Rattle.listing.specs.declared.line.Line.the-variants.{Read, Refused, Cut, End}
 
 -- no text is empty
 pub text-some : (l : Line) → 0 < length (textOf l)
-text-some (Read k f n) = rw (length-append (decimal k) (readWord ++ (hexOf f ++ (space ++ (decimal n ++ newline))))) (omega arith)
-text-some (Refused k n) = rw (length-append (decimal k) (refusedWord ++ (decimal n ++ newline))) (omega arith)
+text-some (Read k f n) = rw (length-append (decimal k) (readWord ++ (hexOf f ++ numberedText space n))) (omega arith)
+text-some (Refused k n) = rw (length-append (decimal k) (numberedText refusedWord n)) (omega arith)
 text-some (Cut k) = omega arith
 text-some (End k) = omega arith
 
@@ -61,9 +61,9 @@ Typed (End k) = k < bits64
 
 pub longest : (l : Line) → Typed l → length (textOf l) ≤ longestText
 longest (Read k f n) h =
-    rw (length-append (decimal k) (readWord ++ (hexOf f ++ (space ++ (decimal n ++ newline)))))
+    rw (length-append (decimal k) (readWord ++ (hexOf f ++ numberedText space n)))
     (omega (arith, decimal-length k (h .0), end-length n (h .1)))
 longest (Refused k n) h =
-    rw (length-append (decimal k) (refusedWord ++ (decimal n ++ newline))) (omega (arith, decimal-length k (h .0), end-length n (h .1)))
+    rw (length-append (decimal k) (numberedText refusedWord n)) (omega (arith, decimal-length k (h .0), end-length n (h .1)))
 longest (Cut k) h = omega (arith, end-length k h)
 longest (End k) h = omega (arith, end-length k h)

@@ -2,29 +2,20 @@
 use Prim.Native.Nat.{ℕ, _≤_}
 use mathlib.Core.List.{List, [], _∷_, _++_}
 use lib.ListN.{length}
-use Rattle.text.specs.Pieces.{hexOf, decimal, space, newline}
+use Rattle.text.specs.Pieces.{hexOf, decimal, space, numberedText, readWord, refusedWord, endWord}
 use Rattle.text.specs.Putting.{PutsBehind}
 use Rattle.listing.specs.declared.line.Line.{Line}
 use Rattle.listing.specs.declared.line.Line.the-variants.{Read, Refused, Cut, End}
 
--- " read ", " refused ", "cut ", "end "
-abbrev pub readWord : List ℕ
-readWord = 32 ∷ 114 ∷ 101 ∷ 97 ∷ 100 ∷ 32 ∷ []
-
-abbrev pub refusedWord : List ℕ
-refusedWord = 32 ∷ 114 ∷ 101 ∷ 102 ∷ 117 ∷ 115 ∷ 101 ∷ 100 ∷ 32 ∷ []
-
+-- "cut "
 abbrev pub cutWord : List ℕ
 cutWord = 99 ∷ 117 ∷ 116 ∷ 32 ∷ []
 
-abbrev pub endWord : List ℕ
-endWord = 101 ∷ 110 ∷ 100 ∷ 32 ∷ []
-
 abbrev pub textOf : Line → List ℕ
-textOf (Read k f n) = decimal k ++ (readWord ++ (hexOf f ++ (space ++ (decimal n ++ newline))))
-textOf (Refused k n) = decimal k ++ (refusedWord ++ (decimal n ++ newline))
-textOf (Cut k) = cutWord ++ (decimal k ++ newline)
-textOf (End k) = endWord ++ (decimal k ++ newline)
+textOf (Read k f n) = decimal k ++ (readWord ++ (hexOf f ++ numberedText space n))
+textOf (Refused k n) = decimal k ++ numberedText refusedWord n
+textOf (Cut k) = numberedText cutWord k
+textOf (End k) = numberedText endWord k
 
 -- no text is longer, of a line whose numbers are below 2^64 (`longest` in proofs/TextLaws.antt)
 abbrev pub longestText : ℕ

@@ -1,18 +1,15 @@
 // A line of the listing, and its text.
 ghost use mathlib.Core.Path.{_≡_};
-ghost use mathlib.Core.List.{_++_};
-ghost use Prim.Native.Nat.{_≤_};
 ghost use lib.ListN.{length};
 ghost use Rattle.codec.specs.Told.{WritesAll};
-ghost use Rattle.text.specs.Pieces.{decimal, newline};
 ghost use Rattle.text.specs.Putting.{EndsWith};
 ghost use Rattle.listing.specs.Text.{longestText, textOf, PutsText};
 use codec::refusal::Refusal;
 use codec::writer::Written;
 use text::put_behind;
 use text::put_decimal;
-use text::put_end;
 use text::put_hex;
+use text::put_numbered;
 use text::put_word;
 
 // The records' numbers count from 0; the last number of a read line is the written length.
@@ -31,8 +28,7 @@ fn put_read(text: &mut [u8], count: u64, family: u8, written: usize) -> usize
     requires { ⌜ length (now text) ≡ longestText ⌝ }
     ensures { λ r. ⌜ EndsWith (textOf (Line.Read count family written)) r (now (text .exit)) ⌝ }
 {
-    let number = put_end(text, LONGEST, written as u64);
-    let space = put_word(text, number, b" ");
+    let space = put_numbered(text, LONGEST, b" ", written as u64);
     let id = put_hex(text, space, family);
     let word = put_word(text, id, b" read ");
     put_decimal(text, word, count)
@@ -42,17 +38,8 @@ fn put_refused(text: &mut [u8], count: u64, why: u8) -> usize
     requires { ⌜ length (now text) ≡ longestText ⌝ }
     ensures { λ r. ⌜ EndsWith (textOf (Line.Refused count why)) r (now (text .exit)) ⌝ }
 {
-    let number = put_end(text, LONGEST, why as u64);
-    let word = put_word(text, number, b" refused ");
+    let word = put_numbered(text, LONGEST, b" refused ", why as u64);
     put_decimal(text, word, count)
-}
-
-fn put_last(text: &mut [u8], word: &[u8], count: u64) -> usize
-    requires { ⌜ (length (now text) ≡ longestText) × (length (now word) ≤ 8) ⌝ }
-    ensures { λ r. ⌜ EndsWith (now (word .entry) ++ (decimal count ++ newline)) r (now (text .exit)) ⌝ }
-{
-    let number = put_end(text, LONGEST, count);
-    put_word(text, number, word)
 }
 
 fn put_line(text: &mut [u8], line: Line) -> usize
@@ -62,8 +49,8 @@ fn put_line(text: &mut [u8], line: Line) -> usize
     match line {
         Line::Read(count, family, written) => put_read(text, count, family, written),
         Line::Refused(count, why) => put_refused(text, count, why),
-        Line::Cut(count) => put_last(text, b"cut ", count),
-        Line::End(count) => put_last(text, b"end ", count),
+        Line::Cut(count) => put_numbered(text, LONGEST, b"cut ", count),
+        Line::End(count) => put_numbered(text, LONGEST, b"end ", count),
     }
 }
 

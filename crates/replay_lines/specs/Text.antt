@@ -5,12 +5,12 @@ use lib.ListN.{length}
 use Rattle.families.specs.Payload.{familyId}
 use Rattle.commands.specs.Writing.{payloadOf}
 use Rattle.commands.specs.declared.DirectCommands.{DirectCommands}
-use Rattle.text.specs.Pieces.{hexOf, decimal, space, newline}
+use Rattle.text.specs.Pieces.{hexOf, decimal, space, numberedText, readWord, refusedWord, endWord}
 use Rattle.replay.specs.declared.Event.{Event}
 use Rattle.replay.specs.declared.Kind.{Kind}
 use Rattle.replay.specs.declared.Kind.the-variants.{Nothing, Command, Refused, Damaged, Gap, Back}
 
--- "damaged ", "gap ", "back ", "end ", " read ", " refused "
+-- "damaged ", "gap ", "back "
 abbrev pub damagedWord : List ℕ
 damagedWord = 100 ∷ 97 ∷ 109 ∷ 97 ∷ 103 ∷ 101 ∷ 100 ∷ 32 ∷ []
 
@@ -20,22 +20,9 @@ gapWord = 103 ∷ 97 ∷ 112 ∷ 32 ∷ []
 abbrev pub backWord : List ℕ
 backWord = 98 ∷ 97 ∷ 99 ∷ 107 ∷ 32 ∷ []
 
-abbrev pub endWord : List ℕ
-endWord = 101 ∷ 110 ∷ 100 ∷ 32 ∷ []
-
-abbrev pub readWord : List ℕ
-readWord = 32 ∷ 114 ∷ 101 ∷ 97 ∷ 100 ∷ 32 ∷ []
-
-abbrev pub refusedWord : List ℕ
-refusedWord = 32 ∷ 114 ∷ 101 ∷ 102 ∷ 117 ∷ 115 ∷ 101 ∷ 100 ∷ 32 ∷ []
-
 -- "damaged POSITION N": "A refused block is damaged: it is named", by the position its caller gives, with its number
 abbrev pub damagedText : ℕ → ℕ → List ℕ
-damagedText position n = damagedWord ++ (decimal position ++ (space ++ (decimal n ++ newline)))
-
--- "gap BLOCK" or "back BLOCK": "reported, as a gap if higher, else as a step back"
-abbrev pub numberedText : List ℕ → ℕ → List ℕ
-numberedText w n = w ++ (decimal n ++ newline)
+damagedText position n = damagedWord ++ (decimal position ++ numberedText space n)
 
 -- "BLOCK PLACE": the block's number, and the place of the record's length byte
 abbrev pub placedText : ℕ → ℕ → List ℕ → List ℕ
@@ -44,16 +31,16 @@ placedText b at w = decimal b ++ (space ++ (decimal at ++ w))
 -- "BLOCK PLACE read ID LENGTH": as in the listing, "The family id is two upper-case hexadecimal digits", and the last number "is the written
 -- length"
 abbrev pub readText : ℕ → ℕ → ℕ → ℕ → List ℕ
-readText b at id n = placedText b at (readWord ++ (hexOf id ++ (space ++ (decimal n ++ newline))))
+readText b at id n = placedText b at (readWord ++ (hexOf id ++ numberedText space n))
 
 abbrev pub commandText : ℕ → ℕ → DirectCommands → List ℕ
 commandText b at c = readText b at (familyId (c .payload)) (length (payloadOf c))
 
 -- "BLOCK PLACE refused N P": "reported with its number and place", and the payload's own place
 abbrev pub refusedText : ℕ → ℕ → ℕ → ℕ → List ℕ
-refusedText b at n p = placedText b at (refusedWord ++ (decimal n ++ (space ++ (decimal p ++ newline))))
+refusedText b at n p = placedText b at (refusedWord ++ (decimal n ++ numberedText space p))
 
--- a sound block in order that has no records has no line
+-- "gap BLOCK" or "back BLOCK": "reported, as a gap if higher, else as a step back". A sound block in order that has no records has no line
 abbrev pub textAs : Kind → Event → List ℕ
 textAs Nothing e = []
 textAs Command e = commandText (e .block) (e .place) (e .command)

@@ -14,6 +14,7 @@ use codec::writer::Written;
 use line::LONGEST;
 use replay::Replay;
 use text::put_behind;
+use text::put_numbered;
 
 mod line;
 
@@ -125,7 +126,7 @@ pub fn put_end(blocks: u64, text: &mut [u8]) -> Written
     ensures { λ r. ⌜ WritesAll (endText blocks) r (now (text .entry)) (now (text .exit)) ⌝ }
 {
     let mut line = [0u8; LONGEST];
-    let start = line::put_numbered(&mut line, b"end ", blocks);
+    let start = put_numbered(&mut line, LONGEST, b"end ", blocks);
     let len = put_behind(text, 0, &line[start..]);
     if len == 0 {
         return Written::Refused(Refusal::BufferOverflow);

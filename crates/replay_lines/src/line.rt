@@ -1,9 +1,6 @@
 // The text of an event's line.
-ghost use mathlib.Core.List.{_++_};
 ghost use mathlib.Core.Path.{_≡_};
-ghost use Prim.Native.Nat.{_≤_};
 ghost use lib.ListN.{length};
-ghost use Rattle.text.specs.Pieces.{decimal, newline};
 ghost use Rattle.text.specs.Putting.{EndsWith};
 ghost use Rattle.replay_lines.specs.Text.{longestText, textOf, readText, commandText, refusedText, damagedText};
 ghost use Rattle.replay_lines.specs.Lines.{PutsText};
@@ -12,28 +9,18 @@ use replay::Event;
 use replay::Kind;
 use text::put_behind;
 use text::put_decimal;
-use text::put_end;
 use text::put_hex;
+use text::put_numbered;
 use text::put_word;
 
 // No text of a line is longer.
 pub(crate) const LONGEST: usize = 64;
 
-// A line of a word and a number.
-pub(crate) fn put_numbered(text: &mut [u8], word: &[u8], number: u64) -> usize
-    requires { ⌜ (length (now text) ≡ longestText) × (length (now word) ≤ 8) ⌝ }
-    ensures { λ r. ⌜ EndsWith (now (word .entry) ++ (decimal number ++ newline)) r (now (text .exit)) ⌝ }
-{
-    let digits = put_end(text, LONGEST, number);
-    put_word(text, digits, word)
-}
-
 fn put_damaged(text: &mut [u8], position: u32, why: u8) -> usize
     requires { ⌜ length (now text) ≡ longestText ⌝ }
     ensures { λ r. ⌜ EndsWith (damagedText position why) r (now (text .exit)) ⌝ }
 {
-    let number = put_end(text, LONGEST, why as u64);
-    let space = put_word(text, number, b" ");
+    let space = put_numbered(text, LONGEST, b" ", why as u64);
     let block = put_decimal(text, space, position as u64);
     put_word(text, block, b"damaged ")
 }
@@ -42,8 +29,7 @@ fn put_read(text: &mut [u8], block: u32, place: usize, family: u8, written: usiz
     requires { ⌜ length (now text) ≡ longestText ⌝ }
     ensures { λ r. ⌜ EndsWith (readText block place family written) r (now (text .exit)) ⌝ }
 {
-    let number = put_end(text, LONGEST, written as u64);
-    let space = put_word(text, number, b" ");
+    let space = put_numbered(text, LONGEST, b" ", written as u64);
     let id = put_hex(text, space, family);
     let word = put_word(text, id, b" read ");
     let digits = put_decimal(text, word, place as u64);
@@ -55,8 +41,7 @@ fn put_refused(text: &mut [u8], block: u32, place: usize, why: u8, own: u8) -> u
     requires { ⌜ length (now text) ≡ longestText ⌝ }
     ensures { λ r. ⌜ EndsWith (refusedText block place why own) r (now (text .exit)) ⌝ }
 {
-    let last = put_end(text, LONGEST, own as u64);
-    let space = put_word(text, last, b" ");
+    let space = put_numbered(text, LONGEST, b" ", own as u64);
     let number = put_decimal(text, space, why as u64);
     let word = put_word(text, number, b" refused ");
     let record = put_decimal(text, word, place as u64);
@@ -96,8 +81,8 @@ fn put_event(text: &mut [u8], event: Event) -> usize
             )
         }
         Kind::Damaged => put_damaged(text, event.block, event.number),
-        Kind::Gap => put_numbered(text, b"gap ", event.block as u64),
-        Kind::Back => put_numbered(text, b"back ", event.block as u64),
+        Kind::Gap => put_numbered(text, LONGEST, b"gap ", event.block as u64),
+        Kind::Back => put_numbered(text, LONGEST, b"back ", event.block as u64),
     }
 }
 

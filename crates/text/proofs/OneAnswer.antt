@@ -14,8 +14,8 @@ use Rattle.text.proofs.put_decimal.Reads as put-decimal
 use Rattle.text.proofs.put_decimal.Kinds as put-decimal-kinds
 use Rattle.text.proofs.put_hex.Reads as put-hex
 use Rattle.text.proofs.put_hex.Kinds as put-hex-kinds
-use Rattle.text.proofs.put_end.Reads as put-end
-use Rattle.text.proofs.put_end.Kinds as put-end-kinds
+use Rattle.text.proofs.put_numbered.Reads as put-numbered
+use Rattle.text.proofs.put_numbered.Kinds as put-numbered-kinds
 use Rattle.text.proofs.put_behind.Reads as put-behind
 use Rattle.text.proofs.put_behind.Kinds as put-behind-kinds
 
@@ -40,10 +40,10 @@ pub put-hex-one : (κs : Lfts 1) (a : Dens κs put-hex-kinds.ps) (x y : resT put
     → put-hex.Post κs a x s → put-hex.Post κs a y t → (x ≡ y) × (now (s .0) ≡ now (t .0))
 put-hex-one κs a x y s t p q = before-fixed p q
 
-pub put-end-one : (κs : Lfts 1) (a : Dens κs put-end-kinds.ps) (x y : resT put-end-kinds.r κs .Denot)
-    (s t : AtExit (endedOf 1 put-end-kinds.ps put-end-kinds.r) κs)
-    → put-end.Post κs a x s → put-end.Post κs a y t → (x ≡ y) × (now (s .0) ≡ now (t .0))
-put-end-one κs a x y s t p q = before-fixed p q
+pub put-numbered-one : (κs : Lfts 2) (a : Dens κs put-numbered-kinds.ps) (x y : resT put-numbered-kinds.r κs .Denot)
+    (s t : AtExit (endedOf 2 put-numbered-kinds.ps put-numbered-kinds.r) κs)
+    → put-numbered.Post κs a x s → put-numbered.Post κs a y t → (x ≡ y) × (now (s .0) ≡ now (t .0))
+put-numbered-one κs a x y s t p q = before-fixed p q
 
 pub put-behind-one : (κs : Lfts 2) (a : Dens κs put-behind-kinds.ps) (x y : resT put-behind-kinds.r κs .Denot)
     (s t : AtExit (endedOf 2 put-behind-kinds.ps put-behind-kinds.r) κs)

@@ -1,9 +1,9 @@
 -- Wrong answers that the contracts of the public functions rule out: the definition that the contract names, worked out for an input
 -- where the wrong answer would be another. That no other answer is allowed there is in OneAnswer.antt. Assumes nothing.
-use mathlib.Core.List.{[], _∷_, _++_}
+use mathlib.Core.List.{[], _∷_}
 use mathlib.Core.Path.{_≡_, refl}
 use lib.ListN.{replicate}
-use Rattle.text.specs.Pieces.{hexOf, decimal, newline}
+use Rattle.text.specs.Pieces.{hexOf, decimal, space, numberedText}
 use Rattle.text.specs.Putting.{PutsBefore, PutsBehind}
 
 -- ---- put_word
@@ -41,14 +41,14 @@ hex-of-8 = refl
 pub hex-upper : hexOf 250 ≡ 70 ∷ 65 ∷ []
 hex-upper = refl
 
--- ---- put_end
--- the line's end stands behind the number: "7" and 10
-pub end-behind : PutsBefore (decimal 7 ++ newline) 3 1 (replicate 3 0) (0 ∷ 55 ∷ 10 ∷ [])
-end-behind = record { start = refl; leaves = refl }
+-- ---- put_numbered
+-- the word stands in front of the number, the line's end behind it: " 7" and 10
+pub numbered-order : PutsBefore (numberedText space 7) 4 1 (replicate 4 0) (0 ∷ 32 ∷ 55 ∷ 10 ∷ [])
+numbered-order = record { start = refl; leaves = refl }
 
--- where only one of the two has room, neither is put
-pub end-whole : PutsBefore (decimal 7 ++ newline) 1 1 (0 ∷ []) (0 ∷ [])
-end-whole = record { start = refl; leaves = refl }
+-- where the number and its end have room, but not the word, none of them is put
+pub numbered-whole : PutsBefore (numberedText space 7) 2 2 (replicate 2 0) (replicate 2 0)
+numbered-whole = record { start = refl; leaves = refl }
 
 -- ---- put_behind
 -- a text that just has room is put; what waits keeps its bytes

@@ -25,6 +25,20 @@ space = 32 ∷ []
 abbrev pub newline : List ℕ
 newline = 10 ∷ []
 
+-- a line's last number, behind a word
+abbrev pub numberedText : List ℕ → ℕ → List ℕ
+numberedText w n = w ++ (decimal n ++ newline)
+
+-- " read ", " refused ", "end "
+abbrev pub readWord : List ℕ
+readWord = 32 ∷ 114 ∷ 101 ∷ 97 ∷ 100 ∷ 32 ∷ []
+
+abbrev pub refusedWord : List ℕ
+refusedWord = 32 ∷ 114 ∷ 101 ∷ 102 ∷ 117 ∷ 115 ∷ 101 ∷ 100 ∷ 32 ∷ []
+
+abbrev pub endWord : List ℕ
+endWord = 101 ∷ 110 ∷ 100 ∷ 32 ∷ []
+
 -- the digits of the largest number below 2^64 (`decimal-length` in proofs/Digits.antt)
 abbrev pub mostDigits : ℕ
 mostDigits = 20

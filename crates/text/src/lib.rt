@@ -4,7 +4,7 @@ ghost use mathlib.Core.Path.{_≡_};
 ghost use mathlib.Core.List.{_++_};
 ghost use Prim.Native.Nat.{_+_, _≤_, _<_};
 ghost use lib.ListN.{length, drop};
-ghost use Rattle.text.specs.Pieces.{hexDigit, hexOf, mostDigits, decimal, newline};
+ghost use Rattle.text.specs.Pieces.{hexDigit, hexOf, mostDigits, decimal, numberedText};
 ghost use Rattle.text.specs.Putting.{PutsBefore, PutsBehind};
 
 // A number below 2^64 has no more.
@@ -81,13 +81,17 @@ pub fn put_hex(text: &mut [u8], at: usize, byte: u8) -> usize
     put_word(text, at, &digits)
 }
 
-// The same of a line's last number and its end.
-pub fn put_end(text: &mut [u8], at: usize, number: u64) -> usize
-    ensures { λ r. ⌜ PutsBefore (decimal number ++ newline) at r (now (text .entry)) (now (text .exit)) ⌝ }
+// The same of a word, a line's last number and its end, together.
+pub fn put_numbered(text: &mut [u8], at: usize, word: &[u8], number: u64) -> usize
+    ensures { λ r. ⌜ PutsBefore (numberedText (now (word .entry)) number) at r (now (text .entry)) (now (text .exit)) ⌝ }
 {
     let mut end = [b'\n'; LONGEST_END];
-    let start = put_digits(&mut end, MOST_DIGITS, number);
-    put_word(text, at, &end[start..])
+    let digits = put_digits(&mut end, MOST_DIGITS, number);
+    if at < word.len() + (LONGEST_END - digits) {
+        return at;
+    }
+    let place = put_word(text, at, &end[digits..]);
+    put_word(text, place, word)
 }
 
 // A whole text behind the text that waits, at a place of `out`, where all of it has room there: the answer is its length, else 0.

@@ -1,8 +1,9 @@
 -- `put_end` meets its contract: the closing line, as it stands at the end of its array, is put. Assumes nothing.
-use mathlib.Core.Path.{_≡_}
-use lib.ListN.{length}
-use Rattle.text.proofs.Before.{ends-part}
-use Rattle.replay_lines.specs.Text.{longestText, endText}
+use native.Mathlib.Omega.{arith}
+use mathlib.Core.Path.{refl}
+use Rattle.text.proofs.Digits.{end-length}
+use Rattle.text.proofs.Before.{before-within, first-part}
+use Rattle.replay_lines.specs.Text.{longestText}
 use Rattle.replay_lines.proofs.TextLaws.{end-some, front-none, front-put}
 use borrow.Author.Needs.{needs}
 use Rattle.replay_lines.proofs.put_end.Statement.{statement}
@@ -12,25 +13,25 @@ returns : tie.Need-returns
 returns c =
     let at-put-behind = c .before .before .before in
     let at-put-numbered = at-put-behind .before .before .before .before .before in
-    let at-start = at-put-numbered .before .before .before .before in
-    let given = at-start .args in
-    let put = at-put-numbered .put-numbered in
-    let all : length (put .last .0) ≡ longestText = search needs in
-    front-none (end-some (given .blocks))
-    (rw (ends-part (endText (given .blocks)) (put .result) longestText (put .last .0) all (put .ensures .bytes))
-    at (at-put-behind .put-behind .ensures)) (c .if1 .taken)
+    let blocks = at-put-numbered .before .before .before .before .args .blocks in
+    let last = end-length blocks (omega arith) in
+    let put = first-part {n = longestText} refl (at-put-numbered .put-numbered .ensures) (omega arith) in
+    front-none (end-some blocks) (rw put at (at-put-behind .put-behind .ensures)) (c .if1 .taken)
 
 returns-2 : tie.Need-returns-2
 returns-2 c =
     let at-put-behind = c .before .before .before in
     let at-put-numbered = at-put-behind .before .before .before .before .before in
-    let at-start = at-put-numbered .before .before .before .before in
-    let given = at-start .args in
-    let put = at-put-numbered .put-numbered in
-    let all : length (put .last .0) ≡ longestText = search needs in
-    front-put (end-some (given .blocks))
-    (rw (ends-part (endText (given .blocks)) (put .result) longestText (put .last .0) all (put .ensures .bytes))
-    at (at-put-behind .put-behind .ensures)) (c .if1 .left)
+    let blocks = at-put-numbered .before .before .before .before .args .blocks in
+    let last = end-length blocks (omega arith) in
+    let put = first-part {n = longestText} refl (at-put-numbered .put-numbered .ensures) (omega arith) in
+    front-put (end-some blocks) (rw put at (at-put-behind .put-behind .ensures)) (c .if1 .left)
+
+sub-put-behind : tie.Need-sub-put-behind
+sub-put-behind c = before-within (c .before .before .put-numbered .ensures)
+
+part-put-behind-start : tie.Need-part-put-behind-start
+part-put-behind-start c = before-within (c .before .before .before .put-numbered .ensures)
 
 -- ---- what the toolchain asks for, and finds
 slice-aggregate-put-numbered : tie.Need-slice-aggregate-put-numbered
@@ -41,12 +42,6 @@ slice-aggregate-put-numbered-2 c = search needs
 
 put-numbered-requires : tie.Need-put-numbered-requires
 put-numbered-requires c κs = search needs
-
-sub-put-behind : tie.Need-sub-put-behind
-sub-put-behind c = search needs
-
-part-put-behind-start : tie.Need-part-put-behind-start
-part-put-behind-start c = search needs
 
 part-put-behind-end : tie.Need-part-put-behind-end
 part-put-behind-end c = search needs

@@ -1,4 +1,8 @@
 -- `line::put_line` meets its contract. Assumes nothing.
+use native.Mathlib.Omega.{arith}
+use Rattle.text.proofs.Before.{grown-first}
+use Rattle.listing.specs.declared.line.Line.the-variants.{Cut, End}
+use Rattle.listing.proofs.TextLaws.{longest}
 use borrow.Author.Needs.{needs}
 use Rattle.listing.proofs.line.put_line.Statement.{statement}
 use Rattle.listing.proofs.line.put_line.Tie as tie
@@ -17,15 +21,19 @@ returns-2 c =
 
 returns-3 : tie.Need-returns-3
 returns-3 c =
-    let at-put-last = c .before .before in
-    let at-line3 = at-put-last .before .before .before .before in
-    rw (at-line3 .line3 .given .1) (at-put-last .put-last .ensures)
+    let at-put-numbered = c .before .before in
+    let at-line3 = at-put-numbered .before .before .before .before in
+    let at-start = at-line3 .before .before .before in
+    rw (at-line3 .line3 .given .1) (grown-first (at-start .pre) (at-put-numbered .put-numbered .ensures)
+    (longest (Cut (at-line3 .line3 .given .0 .0)) (omega arith)) .ends)
 
 returns-4 : tie.Need-returns-4
 returns-4 c =
-    let at-put-last2 = c .before .before in
-    let at-line4 = at-put-last2 .before .before .before .before in
-    rw (at-line4 .line4 .given .1) (at-put-last2 .put-last2 .ensures)
+    let at-put-numbered2 = c .before .before in
+    let at-line4 = at-put-numbered2 .before .before .before .before in
+    let at-start = at-line4 .before .before .before in
+    rw (at-line4 .line4 .given .1) (grown-first (at-start .pre) (at-put-numbered2 .put-numbered2 .ensures)
+    (longest (End (at-line4 .line4 .given .0 .0)) (omega arith)) .ends)
 
 -- ---- what the toolchain asks for, and finds
 enum-known-line : tie.Need-enum-known-line
@@ -43,20 +51,20 @@ put-refused-requires c κs = search needs
 enum-known-line-3 : tie.Need-enum-known-line-3
 enum-known-line-3 c = search needs
 
-slice-aggregate-put-last : tie.Need-slice-aggregate-put-last
-slice-aggregate-put-last c = search needs
+slice-aggregate-put-numbered : tie.Need-slice-aggregate-put-numbered
+slice-aggregate-put-numbered c = search needs
 
-put-last-requires : tie.Need-put-last-requires
-put-last-requires c κs = search needs
+put-numbered-requires : tie.Need-put-numbered-requires
+put-numbered-requires c κs = search needs
 
 enum-known-line-4 : tie.Need-enum-known-line-4
 enum-known-line-4 c = search needs
 
-slice-aggregate-put-last-2 : tie.Need-slice-aggregate-put-last-2
-slice-aggregate-put-last-2 c = search needs
+slice-aggregate-put-numbered-2 : tie.Need-slice-aggregate-put-numbered-2
+slice-aggregate-put-numbered-2 c = search needs
 
-put-last-requires-2 : tie.Need-put-last-requires-2
-put-last-requires-2 c κs = search needs
+put-numbered-requires-2 : tie.Need-put-numbered-requires-2
+put-numbered-requires-2 c κs = search needs
 
 same-length : tie.Need-same-length
 same-length c = search needs
@@ -79,11 +87,11 @@ put-line-spec =
     enum-known-line-2
     put-refused-requires
     enum-known-line-3
-    slice-aggregate-put-last
-    put-last-requires
+    slice-aggregate-put-numbered
+    put-numbered-requires
     enum-known-line-4
-    slice-aggregate-put-last-2
-    put-last-requires-2
+    slice-aggregate-put-numbered-2
+    put-numbered-requires-2
     same-length
     returns
     same-length-2

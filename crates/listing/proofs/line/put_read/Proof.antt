@@ -11,38 +11,33 @@ use Rattle.listing.proofs.line.put_read.Tie as tie
 returns : tie.Need-returns
 returns c =
     let at-put-decimal = c .before .before in
-    let at-put-word2 = at-put-decimal .before .before .before .before in
-    let at-put-hex = at-put-word2 .before .before .before .before .before in
-    let at-put-word = at-put-hex .before .before .before .before in
-    let at-put-end = at-put-word .before .before .before .before .before in
-    let at-start = at-put-end .before .before .before in
+    let at-put-word = at-put-decimal .before .before .before .before in
+    let at-put-hex = at-put-word .before .before .before .before .before in
+    let at-put-numbered = at-put-hex .before .before .before .before in
+    let at-start = at-put-numbered .before .before .before .before in
     let given = at-start .args in
     let last = end-length (given .written) (omega arith) in
-    let number = grown-first (at-start .pre) (at-put-end .put-end .ensures) (omega arith) in
-    let space = grown-more number (at-put-word .put-word .ensures) (omega arith) in
+    let space = grown-first (at-start .pre) (at-put-numbered .put-numbered .ensures) (omega arith) in
     let id = grown-more space (at-put-hex .put-hex .ensures) (omega arith) in
-    let word = grown-more id (at-put-word2 .put-word2 .ensures) (omega arith) in
+    let word = grown-more id (at-put-word .put-word .ensures) (omega arith) in
     grown-more word (at-put-decimal .put-decimal .ensures)
     (longest (Read (given .count) (given .family) (given .written)) (omega arith, omega arith)) .ends
 
 -- ---- what the toolchain asks for, and finds
-put-end-requires : tie.Need-put-end-requires
-put-end-requires c κs = search needs
+slice-aggregate-put-numbered : tie.Need-slice-aggregate-put-numbered
+slice-aggregate-put-numbered c = search needs
+
+put-numbered-requires : tie.Need-put-numbered-requires
+put-numbered-requires c κs = search needs
+
+put-hex-requires : tie.Need-put-hex-requires
+put-hex-requires c κs = search needs
 
 slice-aggregate-put-word : tie.Need-slice-aggregate-put-word
 slice-aggregate-put-word c = search needs
 
 put-word-requires : tie.Need-put-word-requires
 put-word-requires c κs = search needs
-
-put-hex-requires : tie.Need-put-hex-requires
-put-hex-requires c κs = search needs
-
-slice-aggregate-put-word-2 : tie.Need-slice-aggregate-put-word-2
-slice-aggregate-put-word-2 c = search needs
-
-put-word-requires-2 : tie.Need-put-word-requires-2
-put-word-requires-2 c κs = search needs
 
 put-decimal-requires : tie.Need-put-decimal-requires
 put-decimal-requires c κs = search needs
@@ -54,12 +49,11 @@ pub put-read-spec : {M : Type 1} → statement M
 put-read-spec =
     tie.close
     (tie.spec
-    put-end-requires
+    slice-aggregate-put-numbered
+    put-numbered-requires
+    put-hex-requires
     slice-aggregate-put-word
     put-word-requires
-    put-hex-requires
-    slice-aggregate-put-word-2
-    put-word-requires-2
     put-decimal-requires
     same-length
     returns)

@@ -11,25 +11,20 @@ use Rattle.listing.proofs.line.put_refused.Tie as tie
 returns : tie.Need-returns
 returns c =
     let at-put-decimal = c .before .before in
-    let at-put-word = at-put-decimal .before .before .before .before in
-    let at-put-end = at-put-word .before .before .before .before .before in
-    let at-start = at-put-end .before .before .before in
+    let at-put-numbered = at-put-decimal .before .before .before .before in
+    let at-start = at-put-numbered .before .before .before .before in
     let given = at-start .args in
     let last = end-length (given .why) (omega arith) in
-    let number = grown-first (at-start .pre) (at-put-end .put-end .ensures) (omega arith) in
-    let word = grown-more number (at-put-word .put-word .ensures) (omega arith) in
+    let word = grown-first (at-start .pre) (at-put-numbered .put-numbered .ensures) (omega arith) in
     grown-more word (at-put-decimal .put-decimal .ensures)
     (longest (Refused (given .count) (given .why)) (omega arith, omega arith)) .ends
 
 -- ---- what the toolchain asks for, and finds
-put-end-requires : tie.Need-put-end-requires
-put-end-requires c κs = search needs
+slice-aggregate-put-numbered : tie.Need-slice-aggregate-put-numbered
+slice-aggregate-put-numbered c = search needs
 
-slice-aggregate-put-word : tie.Need-slice-aggregate-put-word
-slice-aggregate-put-word c = search needs
-
-put-word-requires : tie.Need-put-word-requires
-put-word-requires c κs = search needs
+put-numbered-requires : tie.Need-put-numbered-requires
+put-numbered-requires c κs = search needs
 
 put-decimal-requires : tie.Need-put-decimal-requires
 put-decimal-requires c κs = search needs
@@ -41,9 +36,8 @@ pub put-refused-spec : {M : Type 1} → statement M
 put-refused-spec =
     tie.close
     (tie.spec
-    put-end-requires
-    slice-aggregate-put-word
-    put-word-requires
+    slice-aggregate-put-numbered
+    put-numbered-requires
     put-decimal-requires
     same-length
     returns)

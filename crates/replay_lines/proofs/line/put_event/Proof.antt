@@ -2,6 +2,8 @@
 use native.Mathlib.Omega.{arith}
 use denote.Ref.{now}
 use lib.ListN.{drop-of-length-le}
+use Rattle.text.proofs.Before.{grown-first}
+use Rattle.text.proofs.Digits.{end-length}
 use borrow.Author.Needs.{needs}
 use Rattle.replay_lines.proofs.line.put_event.Statement.{statement}
 use Rattle.replay_lines.proofs.line.put_event.Tie as tie
@@ -36,13 +38,17 @@ returns-5 : tie.Need-returns-5
 returns-5 c =
     let at-put-numbered = c .before .before in
     let at-enum-told5 = at-put-numbered .before .before .before .before in
-    rw (at-enum-told5 .enum-told5 .given .1) (at-put-numbered .put-numbered .ensures)
+    let at-start = at-enum-told5 .before .before .before in
+    let last = end-length (at-start .args .event .block) (omega arith) in
+    rw (at-enum-told5 .enum-told5 .given .1) (grown-first (at-start .pre) (at-put-numbered .put-numbered .ensures) (omega arith) .ends)
 
 returns-6 : tie.Need-returns-6
 returns-6 c =
     let at-put-numbered2 = c .before .before in
     let at-enum-told6 = at-put-numbered2 .before .before .before .before in
-    rw (at-enum-told6 .enum-told6 .given .1) (at-put-numbered2 .put-numbered2 .ensures)
+    let at-start = at-enum-told6 .before .before .before in
+    let last = end-length (at-start .args .event .block) (omega arith) in
+    rw (at-enum-told6 .enum-told6 .given .1) (grown-first (at-start .pre) (at-put-numbered2 .put-numbered2 .ensures) (omega arith) .ends)
 
 -- ---- what the toolchain asks for, and finds
 enum-told : tie.Need-enum-told
