@@ -1,0 +1,14 @@
+pub mod Inspected
+pub mod Limits
+pub mod Cases
+pub mod Accepted
+pub mod Keeps
+pub mod AnyCalls
+pub mod Last
+pub mod Once
+pub mod LeftOut
+pub mod Examples
+pub mod OneAnswer
+pub mod Contracts
+pub mod Excluded
+pub mod RuledOut
