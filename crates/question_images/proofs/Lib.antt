@@ -1,0 +1,5 @@
+pub mod Reading
+pub mod Putting
+pub mod Back
+pub mod OneAnswer
+pub mod RuledOut
