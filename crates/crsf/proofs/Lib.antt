@@ -8,3 +8,7 @@ pub mod RuledOut
 pub mod Replayed
 pub mod OneAnswerLog
 pub mod RuledOutLog
+pub mod Questioned
+pub mod OneAnswerQuestion
+pub mod RuledOutQuestion
+pub mod QuestionCalls

@@ -17,6 +17,7 @@ use Rattle.families.specs.declared.screen.ScreenPopupFields.{ScreenPopupFields}
 use Rattle.images.specs.Popup.{popupFrom}
 use Rattle.images.specs.Fields.{knownAt, fieldsAt, fieldsFrom}
 use Rattle.images.specs.Record.{recordImage, recordAt, recordFrom}
+use Rattle.question_images.specs.Image.{questionAt, questionFrom}
 use Rattle.codec.proofs.Refused.{Some, some-got, some-refused, some-pick}
 
 pub text-some : (v : List ℕ) → Some (newText v)
@@ -63,4 +64,12 @@ pub record-some : (s : List ℕ) → Some (recordFrom s)
 record-some s =
     some-pick (eqb (length s) 70) _ _
     (some-pick (same (recordImage (recordAt s)) s) _ _ (some-got (recordAt s)) (some-refused 5 (omega arith)))
+    (some-refused 5 (omega arith))
+
+pub question-some : (s : List ℕ) → Some (questionFrom s)
+question-some s =
+    some-pick (eqb (length s) 66) _ _
+    (some-pick (leb (getD s 0 0) 1) _ _
+    (some-pick (leb (getD s 1 0) 1) _ _ (some-got (questionAt s)) (some-refused 5 (omega arith)))
+    (some-refused 5 (omega arith)))
     (some-refused 5 (omega arith))

@@ -3,6 +3,7 @@ pub mod command;
 pub mod edit;
 pub mod log;
 pub mod made;
+pub mod question;
 
 ghost use mathlib.Core.Path.{_≡_};
 ghost use Rattle.crc.specs.Check.{commandPolynomial, checkFrom};
