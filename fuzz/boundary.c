@@ -11,12 +11,12 @@
 #define _GNU_SOURCE
 #include <signal.h>
 #include <stdarg.h>
-#include <stdbool.h>
 #include <sys/mman.h>
 #include <unistd.h>
 
 #include "slices.h"
 #include "log.h"
+#include "question.h"
 
 #if __has_include(<valgrind/memcheck.h>)
 #include <valgrind/memcheck.h>
@@ -26,13 +26,17 @@
 #define VALGRIND_CHECK_MEM_IS_DEFINED(at, len) 0
 #endif
 
-enum { MOST_SLICES = 3, NUMBERS = 11, AREA = 1 << 16 /* whole pages on any machine */ };
-enum { CHECK, TEXT, ACK, POPUP, POPUP_FIELDS, READ, WRITE, EDIT, EDIT_LIST, REPLAY, FUNCTIONS };
-/* What is counted beside the answers: of lists, the answer bytes; of events, the kinds, and the numbers of two of them. */
-enum { EDITS_IN_LISTS = FUNCTIONS, KINDS_OF_EVENTS, REFUSED_RECORDS, DAMAGED_BLOCKS, ROWS };
+enum { MOST_SLICES = 3, NUMBERS = 31, AREA = 1 << 16 /* whole pages on any machine */ };
+enum {
+    CHECK, TEXT, ACK, POPUP, POPUP_FIELDS, READ, WRITE, EDIT, EDIT_LIST, REPLAY,
+    QUESTION_ASK, QUESTION_RETURN, QUESTION_COMMAND, FUNCTIONS
+};
+/* What is counted beside the answers: of lists, the answer bytes; of events, the kinds, and the numbers of two of them; of questions, how
+ * they opened or closed. */
+enum { EDITS_IN_LISTS = FUNCTIONS, KINDS_OF_EVENTS, REFUSED_RECORDS, DAMAGED_BLOCKS, CLOSINGS, ROWS };
 
-/* The numbers are those of 01's table; also 3 where an image is handed out, 5 where one is handed in, and 1 and 3 for a list's
- * form. The check has no refusal. */
+/* The numbers are those of 01's table, from '0' on: ':' is 10, and 02's 27 to 30 for questions are K to N; also 3 where an image is
+ * handed out, 5 where one is handed in, and 1 and 3 for a list's form. The check has no refusal. */
 static const struct {
     const char *name, *numbers;
     int slices;
@@ -49,6 +53,9 @@ static const struct {
     [EDIT] = {"crsf_edit", "0124678", 1, {PAYLOAD_IN_PLACE}, 0},
     [EDIT_LIST] = {"crsf_edit_list", "013", 3, {PAYLOAD_IN_PLACE, EDITS, ROOM}, 0},
     [REPLAY] = {"crsf_replay", "035", 3, {REPLAY_IN_PLACE, BLOCK, ROOM}, CRSF_EVENT_SIZE},
+    [QUESTION_ASK] = {"crsf_question_ask", "05KL", 2, {QUESTION_IN_PLACE, POPUP_IMAGE}, 0},
+    [QUESTION_RETURN] = {"crsf_question_return", "025KMN", 1, {QUESTION_IN_PLACE}, 0},
+    [QUESTION_COMMAND] = {"crsf_question_command", "025KLMN", 2, {QUESTION_IN_PLACE, CALLING}, 0},
 };
 
 /* The call at hand. */
@@ -104,22 +111,36 @@ static size_t size_in_room(void)
 }
 static size_t room(void) { return call.function == WRITE ? within(0, CRSF_MAX_PAYLOAD) : size_in_room(); }
 
+static bool on_question(int function) { return function >= QUESTION_ASK && function <= QUESTION_COMMAND; }
+
+/* They go by the first slice. */
+static void draw_numbers(int function, const uint8_t *first, uint32_t numbers[3])
+{
+    for (int i = 0; i < 2; i++)
+        numbers[i] = below(256);
+    numbers[2] = below(8) == 0 ? below(256) : below(2); /* an ACK's action, a response */
+    if (function == EDIT)
+        numbers[0] = field(first[2]), numbers[1] = number();
+    if (function == REPLAY)
+        numbers[0] = (uint32_t)next();
+    if (on_question(function))
+        numbers[0] = second_near(first), numbers[1] = value_near(first);
+}
+
 static void draw(int function)
 {
     call.function = function;
     call.slices = functions[function].slices;
     for (int turn = 0; turn < call.slices; turn++) {
-        const int i = function == REPLAY ? call.slices - 1 - turn : turn; /* a replay goes by its block, a list by its payload */
+        const int i = function == REPLAY ? call.slices - 1 - turn : turn; /* what put_valid goes by comes first */
         struct slice *s = &call.slice[i];
         s->content = functions[function].contents[i];
         const uint32_t most = longest_of(s->content);
         put_any(s->bytes, most);
-        s->len = s->content == ROOM ? room() : put_valid(s->content, s->bytes, call.slice[0].bytes[2], call.slice[1].bytes);
+        s->len = s->content == ROOM ? room() : put_valid(s->content, s->bytes, call.slice[0].bytes, call.slice[1].bytes);
         s->len = damaged(s->bytes, s->len, most);
     }
-    call.numbers[0] = function == EDIT ? field(call.slice[0].bytes[2]) : function == REPLAY ? (uint32_t)next() : below(256);
-    call.numbers[1] = function == EDIT ? number() : below(256);
-    call.numbers[2] = below(8) == 0 ? below(256) : below(2); /* an ACK's action */
+    draw_numbers(function, call.slice[0].bytes, call.numbers);
 }
 
 /* A payload's last byte becomes right for the length it has now, a block's for what it holds now; one in four stays as it fell. */
@@ -190,8 +211,8 @@ static void judge_number(int row, const char *numbers, uint32_t number)
     answers[row][number]++;
 }
 
-/* Only crsf_write counts, from 5 bytes on: destination, source, id, at least one byte, check. That its buffer has so many is judged
- * with the slices. */
+/* But for questions only crsf_write counts, from 5 bytes on: destination, source, id, at least one byte, check. That its buffer has
+ * so many is judged with the slices. */
 static void judge_count(uint32_t count, const struct slice *buffer)
 {
     if (buffer == NULL ? count != 0 : count < 5 || count > CRSF_MAX_PAYLOAD)
@@ -266,6 +287,33 @@ static void judge_replay(const struct slice *s, uint32_t number)
         answers[event[0] == CRSF_KIND_REFUSED ? REFUSED_RECORDS : DAMAGED_BLOCKS][event[8]]++;
 }
 
+/* The word, and the question that is to be kept. */
+static uint32_t expected_of(const struct slice *s, const uint32_t *n, uint8_t *question)
+{
+    popup_fields fields;
+    if (!is_question(s[0].bytes, s[0].len))
+        return 5;
+    memcpy(question, s[0].bytes, CRSF_QUESTION_SIZE);
+    switch (call.function) {
+    case QUESTION_ASK:
+        return s[1].len == CRSF_POPUP_SIZE && inspect(s[1].bytes, fields) ? expect_asked(question, n[0], s[1].bytes) : 5;
+    case QUESTION_RETURN: return n[2] <= 1 ? expect_returned(question, n[0], (uint8_t)n[1], (uint8_t)n[2]) : 2;
+    default: return expect_commanded(question, n[0], s[1].bytes, s[1].len);
+    }
+}
+
+static void judge_question(const struct slice *s, uint32_t answer)
+{
+    uint8_t question[CRSF_QUESTION_SIZE];
+    const uint32_t expected = expected_of(s, call.numbers, question);
+    if (answer != expected)
+        fail("answers %u with count %u, not %u with %u", CRSF_NUMBER(answer), answer >> 8, CRSF_NUMBER(expected), expected >> 8);
+    if (CRSF_NUMBER(answer) != CRSF_ACCEPTED)
+        return;
+    judge_same("keeps", s[0].at, question, sizeof question);
+    answers[CLOSINGS][CRSF_COUNT(answer)]++;
+}
+
 static void judge(uint32_t answer)
 {
     const struct slice *s = call.slice;
@@ -273,7 +321,10 @@ static void judge(uint32_t answer)
     for (int i = 0; i < call.slices; i++)
         judge_slice(i, &s[i], said(&s[i], answer));
     judge_number(call.function, functions[call.function].numbers, CRSF_NUMBER(answer));
-    judge_count(CRSF_COUNT(answer), call.function == WRITE && accepted ? &s[1] : NULL);
+    if (on_question(call.function))
+        judge_question(s, answer);
+    else
+        judge_count(CRSF_COUNT(answer), call.function == WRITE && accepted ? &s[1] : NULL);
     if (CRSF_PLACE(answer) != 0)
         fail("may not answer place %u", CRSF_PLACE(answer));
     if (call.function == REPLAY)
@@ -308,8 +359,18 @@ static uint32_t answer_of(const struct slice *s, const uint32_t *n)
     case WRITE: return crsf_write(s[0].at, s[0].len, s[1].at, s[1].len);
     case EDIT: return crsf_edit(s[0].at, s[0].len, n[0], n[1]);
     case EDIT_LIST: return crsf_edit_list(s[0].at, s[0].len, s[1].at, s[1].len, s[2].at, s[2].len);
-    default: return crsf_replay(s[0].at, s[0].len, n[0], s[1].at, s[1].len, s[2].at, s[2].len);
+    case REPLAY: return crsf_replay(s[0].at, s[0].len, n[0], s[1].at, s[1].len, s[2].at, s[2].len);
+    case QUESTION_ASK: return crsf_question_ask(s[0].at, s[0].len, n[0], s[1].at, s[1].len);
+    case QUESTION_RETURN: return crsf_question_return(s[0].at, s[0].len, n[0], (uint8_t)n[1], (uint8_t)n[2]);
+    default: return crsf_question_command(s[0].at, s[0].len, n[0], s[1].at, s[1].len);
     }
+}
+
+/* Whether the call comes at the last second at which its question may be answered. */
+static bool at_the_end(const uint8_t *question)
+{
+    popup_fields fields;
+    return inspect(question + CRSF_QUESTION_POPUP, fields) && call.numbers[0] - sent_of(question) == fields[CRSF_POPUP_FIELDS_TIMEOUT];
 }
 
 /* What a wrong function would do: run builds each kind, and has to see it caught. */
@@ -334,13 +395,20 @@ static uint32_t spoiled(const struct slice *s, uint32_t answer)
     IF(11, WRITE, number == 0 && s[1].at[s[1].len - 1] == 7) seen = 7;
     IF(12, TEXT, number == 0) (void)VALGRIND_MAKE_MEM_UNDEFINED(s[1].at + CRSF_TEXT_SIZE - 1, 1);
     IF(13, TEXT, number == 0) for (;;) seen = 0;
-    IF(14, REPLAY, number == 0) seen = s[1].at[s[1].len];
+    IF(14, REPLAY, number == 0 && s[1].len > 0) seen = s[1].at[s[1].len];
     IF(15, REPLAY, number != 0 && s[0].len > 0) s[0].at[0] ^= 1;
     IF(16, REPLAY, number == 0 && s[2].at[0] == CRSF_KIND_GAP) s[2].at[0] = CRSF_KIND_STEP_BACK;
     IF(17, REPLAY, number == 0 && s[2].at[0] == CRSF_KIND_COMMAND) s[2].at[1] = 1;
     IF(18, REPLAY, number == 0 && s[2].at[0] == CRSF_KIND_DAMAGED) s[0].at[4] ^= 1;
     IF(19, REPLAY, number == CRSF_RECORD_NOT_MADE && s[0].len == CRSF_REPLAY_SIZE) answer = CRSF_BUFFER_OVERFLOW;
     IF(20, READ, number == 0) s[1].at[CRSF_RECORD_SOURCE] = seen++;
+    IF(21, QUESTION_ASK, number == 0) seen = s[1].at[s[1].len];
+    IF(22, QUESTION_ASK, number == CRSF_CLOCK_BACK) answer = CRSF_STILL_OPEN;
+    IF(23, QUESTION_RETURN, number != 0 && s[0].len > CRSF_QUESTION_LAST) s[0].at[CRSF_QUESTION_LAST] ^= 1;
+    IF(24, QUESTION_RETURN, CRSF_COUNT(answer) == CRSF_PROCESSED && at_the_end(s[0].bytes)) answer = CRSF_EXPIRED << 8;
+    IF(25, QUESTION_RETURN, CRSF_COUNT(answer) == CRSF_EXPIRED) memcpy(s[0].at, s[0].bytes, s[0].len), answer = CRSF_NO_QUESTION;
+    IF(26, QUESTION_COMMAND, number == CRSF_INVALID_PAYLOAD) answer = CRSF_RECORD_NOT_MADE;
+    IF(27, QUESTION_COMMAND, CRSF_COUNT(answer) == CRSF_CANCELLED) s[0].at[CRSF_QUESTION_OPEN] = 1;
     return (void)seen, answer;
 }
 
@@ -403,14 +471,14 @@ static void take_turn(int which, unsigned long long count)
     }
 }
 
-/* One line; false where a number that can be answered never was. The character behind 9 is 10. */
+/* One line; false where a number that can be answered never was. */
 static bool report(const char *name, const char *numbers, const unsigned long long *counts)
 {
     unsigned long long all = 0;
     bool each = true;
     for (int i = 0; i < NUMBERS; i++)
         all += counts[i];
-    printf("%-17s %8llu", name, all);
+    printf("%-21s %8llu", name, all);
     for (; *numbers != '\0'; numbers++) {
         const unsigned long long count = counts[*numbers - '0'];
         printf("  %d: %llu%s", *numbers - '0', count, count > 0 ? "" : ", never answered");
@@ -448,6 +516,7 @@ int main(int argc, char **argv)
     each = report("  kinds of events", "012345", answers[KINDS_OF_EVENTS]) && each;
     each = report("  records refused", "124", answers[REFUSED_RECORDS]) && each;
     each = report("  blocks damaged", "19:", answers[DAMAGED_BLOCKS]) && each;
+    each = report("  closings", "0123", answers[CLOSINGS]) && each;
     if (!each)
         return 1;
     printf("%llu calls, 0 outside\n", calls);

@@ -1,4 +1,5 @@
 /* Slices to call the functions of crsf.h with, drawn from a seed: valid ones, and ones near them. */
+#include <stdbool.h>
 #include <stdio.h>
 #include <stdlib.h>
 #include <string.h>
@@ -7,8 +8,11 @@
 
 enum { LONGEST = 300, LONGEST_BLOCK = 520, KINDS = 30 };
 
-/* What a slice holds. The last three are not const: a payload and a replay are changed in place, room is written from its front. */
-enum content { BYTES, FIELDS, POPUP_IMAGE, RECORD, PAYLOAD, EDITS, BLOCK, PAYLOAD_IN_PLACE, REPLAY_IN_PLACE, ROOM };
+/* What a slice holds. Those of the second row are not const: they are changed in place, room is written from its front. */
+enum content {
+    BYTES, FIELDS, POPUP_IMAGE, RECORD, CALLING, PAYLOAD, EDITS, BLOCK,
+    PAYLOAD_IN_PLACE, REPLAY_IN_PLACE, QUESTION_IN_PLACE, ROOM
+};
 
 static uint32_t longest_of(enum content content) { return content == BLOCK ? LONGEST_BLOCK : LONGEST; }
 
@@ -115,11 +119,11 @@ static uint8_t *put_value(uint8_t *at, char what)
 static void put_text(uint8_t *image, uint32_t longest) { image[0] = (uint8_t)put_nonzero(image + 1, within(0, longest)); }
 
 /* Texts that are made, one by one; the popup may still have no room, or lack an item that another needs. */
-static void put_fields(uint8_t *image)
+static void put_fields(uint8_t *image, uint32_t most)
 {
     static const uint8_t texts[] = {CRSF_POPUP_FIELDS_HEADER, CRSF_POPUP_FIELDS_INFO, CRSF_POPUP_FIELDS_LABEL,
                                     CRSF_POPUP_FIELDS_UNIT, CRSF_POPUP_FIELDS_POSSIBLE_VALUES};
-    const uint32_t longest = within(0, CRSF_MAX_TEXT);
+    const uint32_t longest = within(0, most);
     memset(image, 0, CRSF_POPUP_FIELDS_SIZE);
     for (size_t i = 0; i < sizeof texts; i++)
         put_text(image + texts[i], longest);
@@ -130,23 +134,20 @@ static void put_fields(uint8_t *image)
     put(image + CRSF_POPUP_FIELDS_HAS_POSSIBLE_VALUES, 1, within(0, 1));
 }
 
-/* Of the first fields drawn that make one. */
-static void put_popup(uint8_t *image)
+/* Of the first fields drawn that make one; their texts have so many bytes at the most. */
+static void put_popup(uint8_t *image, uint32_t most)
 {
     uint8_t fields[CRSF_POPUP_FIELDS_SIZE];
     for (int tries = 0; tries < 1000; tries++) {
-        put_fields(fields);
+        put_fields(fields, most);
         if (crsf_popup(fields, sizeof fields, image, CRSF_POPUP_SIZE) == CRSF_ACCEPTED)
             return;
     }
     fputs("crsf_popup makes no popup\n", stderr), exit(1);
 }
 
-/* Each kind in its turn. */
-static void put_record(uint8_t *image)
+static void put_record_of(uint8_t *image, const struct kind *kind)
 {
-    static unsigned turns;
-    const struct kind *kind = &kinds[turns++ % KINDS];
     memset(image, 0, CRSF_RECORD_SIZE);
     uint8_t *at = put(image, 4, (uint32_t)next() << 16 | (uint32_t)kind->id << 8 | kind->sub_command);
     for (const char *value = kind->values; *value != '\0'; value++)
@@ -154,7 +155,14 @@ static void put_record(uint8_t *image)
     if (kind->id == CRSF_ACK)
         put_text(image + CRSF_RECORD_LENGTH, CRSF_MAX_INFORMATION);
     if (kind->id == CRSF_SCREEN && kind->sub_command == CRSF_SCREEN_POPUP_MESSAGE_START)
-        put_popup(image + CRSF_RECORD_LENGTH);
+        put_popup(image + CRSF_RECORD_LENGTH, CRSF_MAX_TEXT);
+}
+
+/* Each kind in its turn. */
+static void put_record(uint8_t *image)
+{
+    static unsigned turns;
+    put_record_of(image, &kinds[turns++ % KINDS]);
 }
 
 /* PAYLOADS AND EDITS */
@@ -267,35 +275,118 @@ static void put_replay(uint8_t *replay, const uint8_t *block)
         put(replay + CRSF_REPLAY_PLACE, 2, place_in(block));
 }
 
+/* QUESTIONS */
+
+typedef uint8_t popup_fields[CRSF_POPUP_FIELDS_SIZE];
+
+/* What a popup shows; where it is not made false, and zeros. */
+static bool inspect(const uint8_t *popup, popup_fields fields)
+{
+    memset(fields, 0, CRSF_POPUP_FIELDS_SIZE);
+    return crsf_popup_fields(popup, CRSF_POPUP_SIZE, fields, CRSF_POPUP_FIELDS_SIZE) == CRSF_ACCEPTED;
+}
+
+/* New, closed, or with a popup that was sent at the last second, or up to 300 before: of up to four drawn, the first
+ * with a selection. */
+static void put_question(uint8_t *question)
+{
+    const uint32_t which = below(8), last = within(0, UINT32_MAX - 1) + below(2), ago = below(301);
+    uint8_t *popup = question + CRSF_QUESTION_POPUP;
+    popup_fields fields;
+    int tries = 4;
+    memset(question, 0, CRSF_QUESTION_SIZE);
+    if (which == 0)
+        return;
+    question[CRSF_QUESTION_STARTED] = 1;
+    put(question + CRSF_QUESTION_LAST, 4, last);
+    if (which == 1)
+        return;
+    question[CRSF_QUESTION_OPEN] = 1;
+    put(question + CRSF_QUESTION_SENT, 4, which < 5 || ago > last ? last : last - ago);
+    do {
+        put_popup(popup, below(4) == 0 ? CRSF_MAX_TEXT : 8);
+        inspect(popup, fields);
+    } while (fields[CRSF_POPUP_FIELDS_ADDITIONAL] != CRSF_ADDITIONAL_SELECTION && --tries > 0);
+}
+
+/* Any, or near the last accepted one, the end of the popup's time, or the last of all. */
+static uint32_t second_near(const uint8_t *question)
+{
+    popup_fields fields;
+    switch (below(8)) {
+    case 0: return (uint32_t)next() >> below(32);
+    case 1: return UINT32_MAX - below(2);
+    case 2:
+    case 3: return number_at(question + CRSF_QUESTION_LAST, 4) - 1 + below(3);
+    default: inspect(question + CRSF_QUESTION_POPUP, fields);
+    }
+    return number_at(question + CRSF_QUESTION_SENT, 4) + fields[CRSF_POPUP_FIELDS_TIMEOUT] - 1 + below(3);
+}
+
+/* Any, or near an end of the popup's selection. */
+static uint8_t value_near(const uint8_t *question)
+{
+    popup_fields fields;
+    inspect(question + CRSF_QUESTION_POPUP, fields);
+    switch (below(3)) {
+    case 0: return (uint8_t)next();
+    case 1: return (uint8_t)(fields[CRSF_POPUP_FIELDS_MIN] - below(2));
+    default: return (uint8_t)(fields[CRSF_POPUP_FIELDS_MAX] + below(2));
+    }
+}
+
+/* The record of a popup or of a returned value; one in eight is of any kind, and one of a returned value may store what it will. */
+static void put_calling(uint8_t *image, const uint8_t *question)
+{
+    const struct kind *kind = kinds;
+    const uint8_t sub_command = below(2) == 0 ? CRSF_SCREEN_POPUP_MESSAGE_START : CRSF_SCREEN_SELECTION_RETURN_VALUE;
+    if (below(8) == 0) {
+        put_record(image);
+        return;
+    }
+    while (kind->id != CRSF_SCREEN || kind->sub_command != sub_command)
+        kind++;
+    put_record_of(image, kind);
+    if (sub_command == CRSF_SCREEN_SELECTION_RETURN_VALUE) {
+        image[CRSF_RECORD_VALUES] = value_near(question);
+        put(image + CRSF_RECORD_LENGTH, 4, below(4) == 0 ? (uint32_t)next() : 0);
+    }
+}
+
 /* ANY OF THEM, AND ONES NEAR IT */
 
-/* Returns the length; id is that of the payload to edit, block that which a replay is to go on with. */
-static size_t put_valid(enum content content, uint8_t *bytes, uint8_t id, const uint8_t *block)
+/* Returns the length. Of the slices that are there already, edits go by the first, a payload; a replay by the second, a block; and
+ * what calls on a question by the first. */
+static size_t put_valid(enum content content, uint8_t *bytes, const uint8_t *first, const uint8_t *second)
 {
     switch (content) {
-    case FIELDS: return put_fields(bytes), CRSF_POPUP_FIELDS_SIZE;
-    case POPUP_IMAGE: return put_popup(bytes), CRSF_POPUP_SIZE;
+    case FIELDS: return put_fields(bytes, CRSF_MAX_TEXT), CRSF_POPUP_FIELDS_SIZE;
+    case POPUP_IMAGE: return put_popup(bytes, CRSF_MAX_TEXT), CRSF_POPUP_SIZE;
     case RECORD: return put_record(bytes), CRSF_RECORD_SIZE;
     case PAYLOAD:
     case PAYLOAD_IN_PLACE: return put_payload(bytes);
-    case EDITS: return put_edits(bytes, id);
+    case EDITS: return put_edits(bytes, first[2]);
     case BLOCK: return put_block(bytes), CRSF_BLOCK_SIZE;
-    case REPLAY_IN_PLACE: return put_replay(bytes, block), CRSF_REPLAY_SIZE;
+    case REPLAY_IN_PLACE: return put_replay(bytes, second), CRSF_REPLAY_SIZE;
+    case QUESTION_IN_PLACE: return put_question(bytes), CRSF_QUESTION_SIZE;
+    case CALLING: return put_calling(bytes, first), CRSF_RECORD_SIZE;
     default: return put_nonzero(bytes, within(0, 56)); /* a text or information */
     }
 }
 
 /* Half stay valid; the others are any bytes, cut, longer, or have a byte changed: anywhere, or from 2 to 7, where records and
- * payloads have their id, sub-command and first values, and blocks their used count and first length. Returns the length. */
+ * payloads have their id, sub-command and first values, and blocks their used count and first length, or of the first two, where
+ * replays and questions have their flags. Returns the length. */
 static size_t damaged(uint8_t bytes[LONGEST_BLOCK + 8], size_t length, uint32_t most)
 {
     const uint32_t len = (uint32_t)length;
-    switch (below(10)) {
+    switch (below(12)) {
     case 0: return put_any(bytes, most), below(most + 1);
     case 1: return below(len + 1);
     case 2: return len + 8 < most ? len + below(8) : most;
     case 3: return put(bytes + below(len + 1), 1, within(0, 255)), len;
     case 4: return put(bytes + 2 + below(6), 1, within(0, 255)), len;
+    case 5: return put(bytes + below(2), 1, within(0, 3)), len;
     default: return len;
     }
 }

@@ -7,6 +7,9 @@
  * To change a number in a payload: crsf_edit; many of them: crsf_put_edit for each, then crsf_edit_list.
  * To replay a log: a replay of zeros; each block of it in turn to crsf_replay, and the same block again while the event
  * that comes of it says that there is more.
+ * To match returned values to the popups that ask for them: a question of zeros, and the caller's own count of seconds;
+ * each popup that was sent to crsf_question_ask, each value that came back to crsf_question_return, or the records of
+ * both to crsf_question_command. The count of an answer tells how the popup was answered (A QUESTION, below).
  *
  * A slice is a pointer and a length; a null pointer is fine where the length is 0. Any bytes and any length have an
  * answer, and nothing is asked of the caller but that the slices may be read, those that are not const written, and
@@ -14,7 +17,7 @@
  *
  * Nothing is kept between calls and nothing is allocated: any thread may call any function at any time, on slices that
  * no other thread writes meanwhile, nor reads where the function writes them. What a replay has to know of the blocks
- * before is in the caller's own bytes.
+ * before, and a question of the popup that was sent, is in the caller's own bytes.
  *
  * Numbers of two or more bytes are big-endian, in payloads, in blocks and in images. */
 #ifndef CRSF_H
@@ -58,9 +61,11 @@ extern "C" {
 #define CRSF_BLOCK_SIZE 512
 #define CRSF_MAX_USED 505
 
-/* AN ANSWER is one number: 0 or a refusal in bits 0-7, a count of bytes in bits 8-15, a place in bits 16-31. Only
- * crsf_write counts, and only where it accepts: every other count is 0. The place is 0 so far. So CRSF_NUMBER(answer)
- * tells which refusal it is; and, but for crsf_write, an answer that is CRSF_ACCEPTED as a whole accepts.
+/* AN ANSWER is one number: 0 or a refusal in bits 0-7, a count in bits 8-15, a place in bits 16-31. Only where a
+ * function accepts is there a count: of crsf_write, the bytes that were written; of crsf_question_return and
+ * crsf_question_command, how a question closed (A QUESTION, below). Every other count is 0. The place is 0 so far. So
+ * CRSF_NUMBER(answer) tells which refusal it is; and, but for these three functions, an answer that is CRSF_ACCEPTED as
+ * a whole accepts.
  *
  * A refusal changes no byte that was lent. What a function refuses stands at the function, in the order in which it
  * looks: the first that holds is the answer. */
@@ -73,13 +78,17 @@ enum {
     CRSF_INVALID_PAYLOAD_LENGTH = 1,
     CRSF_INVALID_PAYLOAD = 2,
     CRSF_BUFFER_OVERFLOW = 3,
-    CRSF_FAMILY_LEFT_BEHIND = 4, /* command id 0x03 or 0x13 */
-    CRSF_RECORD_NOT_MADE = 5,    /* also: bytes that are the image of no record, or of no replay */
-    CRSF_NOT_AS_WRITTEN = 6,     /* the payload can be read, but writing what it says gives other bytes */
-    CRSF_NO_SUCH_FIELD = 7,      /* the command has none */
+    CRSF_FAMILY_LEFT_BEHIND = 4,  /* command id 0x03 or 0x13 */
+    CRSF_RECORD_NOT_MADE = 5,     /* also: bytes that are the image of no record, replay or question */
+    CRSF_NOT_AS_WRITTEN = 6,      /* the payload can be read, but writing what it says gives other bytes */
+    CRSF_NO_SUCH_FIELD = 7,       /* the command has none */
     CRSF_OUTSIDE_RANGE = 8,
-    CRSF_WRONG_BLOCK_CHECK = 9,  /* this one and the next are in events alone: no function answers them */
-    CRSF_WRONG_BLOCK_LAYOUT = 10 /* used count, length of a record, a byte behind the records that is not 0 */
+    CRSF_WRONG_BLOCK_CHECK = 9,   /* 9 and 10 are in events alone: no function answers them */
+    CRSF_WRONG_BLOCK_LAYOUT = 10, /* used count, length of a record, a byte behind the records that is not 0 */
+    CRSF_CLOCK_BACK = 27,         /* a second below the last accepted one; 27 to 30 are of questions alone */
+    CRSF_STILL_OPEN = 28,         /* a popup that may still be answered */
+    CRSF_NO_QUESTION = 29,        /* no popup is open */
+    CRSF_OUTSIDE_SELECTION = 30   /* a processed value that the popup's selection does not have */
 };
 
 /* Command ids. */
@@ -157,7 +166,8 @@ enum {
  * MADE are images whose stored bytes these functions can have handed out. Of a text and of an ACK's information: the
  * length is within its limit, and none of so many bytes is 0. Of a popup: length and bytes are exactly what crsf_popup
  * gives for some fields. Of a command that stores nothing: the length is 0. In all of them every place behind the bytes
- * is 0. An image handed in that is not made is 5. Values are outside this: their ranges are judged by crsf_write. */
+ * is 0. An image handed in that is not made is 5; crsf_question_command judges so of a popup's record alone. Values are
+ * outside this: their ranges are judged by crsf_write. */
 enum {
     CRSF_RECORD_DESTINATION = 0,
     CRSF_RECORD_SOURCE = 1,
@@ -316,6 +326,32 @@ enum {
     CRSF_KIND_STEP_BACK = 5 /* block: not above the sound block before it */
 };
 
+/* A QUESTION is what is kept of the popup that was sent last, until it is answered, in bytes of the caller's own, which
+ * the three functions of a question change in place. A new one is zeros throughout. At most one popup is open in it.
+ *
+ * Seconds are the caller's own count. The first call may carry any, each later one none below the last that was
+ * accepted; where the count starts again, as behind a restart, a new question is needed. A popup's time is over when
+ * more seconds than its timeout have gone by since it was sent.
+ *
+ * Within its limits are: zeros throughout; started 1, any last second, zeros else; started 1, open 1, a popup that is
+ * made, and a second when it was sent that is not above the last one. */
+enum {
+    CRSF_QUESTION_STARTED = 0, /* flag: whether a call was accepted */
+    CRSF_QUESTION_OPEN = 1,    /* flag: whether a popup is open, be its time over or not */
+    CRSF_QUESTION_SENT = 2,    /* u32, second when it was sent */
+    CRSF_QUESTION_LAST = 6,    /* u32, last accepted second */
+    CRSF_QUESTION_POPUP = 10,  /* popup, CRSF_POPUP_SIZE bytes */
+    CRSF_QUESTION_SIZE = 66
+};
+
+/* What the count of an accepted call on a question tells. */
+enum {
+    CRSF_OPENED = 0,    /* a popup was sent, and is open */
+    CRSF_PROCESSED = 1, /* the popup is closed: a value came in time, to be processed */
+    CRSF_CANCELLED = 2, /* the popup is closed: it was cancelled in time */
+    CRSF_EXPIRED = 3    /* the popup is closed: what came back came when its time was over */
+};
+
 /* Reads a payload into a record's image. Bytes of the body behind the command are ignored. Refused:
  * 3, less room than CRSF_RECORD_SIZE;
  * 1, a payload below CRSF_MIN_PAYLOAD or above CRSF_MAX_PAYLOAD bytes;
@@ -403,6 +439,37 @@ CRSF_MUST_USE uint32_t crsf_popup_fields(const uint8_t *popup, size_t popup_len,
  * to CRSF_MAX_PAYLOAD bytes at that place within the used bytes. */
 CRSF_MUST_USE uint32_t crsf_replay(uint8_t *replay, size_t replay_len, uint32_t position, const uint8_t *block,
                                    size_t len, uint8_t *event, size_t event_len);
+
+/* A popup was sent at this second: it is open from now on. One that was open before makes way where its time is over.
+ * The count is CRSF_OPENED. Refused:
+ * 5, a question of another length than CRSF_QUESTION_SIZE, or beyond its limits; no image of a popup (another length),
+ * or not made;
+ * 27, a second below the last accepted one;
+ * 28, a popup is open, and its time is not over. */
+CRSF_MUST_USE uint32_t crsf_question_ask(uint8_t *question, size_t question_len, uint32_t second, const uint8_t *popup,
+                                         size_t popup_len);
+
+/* A value came back at this second, with the response to process it (1) or to cancel (0): it closes the popup that is
+ * open. The count is CRSF_EXPIRED where the popup's time is over, whatever value and response; else CRSF_PROCESSED or
+ * CRSF_CANCELLED. Refused:
+ * 5, a question of another length than CRSF_QUESTION_SIZE, or beyond its limits;
+ * 2, a response above 1;
+ * 27, a second below the last accepted one;
+ * 29, no popup is open: none was sent, or the last one is closed;
+ * 30, the popup's time is not over, it has a selection, the response is 1, and the value is below min or above max. The
+ * popup stays open. */
+CRSF_MUST_USE uint32_t crsf_question_return(uint8_t *question, size_t question_len, uint32_t second, uint8_t value,
+                                            uint8_t response);
+
+/* A command was sent, or has come, at this second: the record of a popup does what crsf_question_ask does, that of a
+ * returned value what crsf_question_return does, with their counts. Nothing else of the record is looked at, neither
+ * its addresses nor what that of a returned value stores. Refused:
+ * 5, a question of another length than CRSF_QUESTION_SIZE, or beyond its limits; no image of a record;
+ * 2, another command;
+ * 5, a popup that is not made;
+ * then 27 to 30, as those two refuse. */
+CRSF_MUST_USE uint32_t crsf_question_command(uint8_t *question, size_t question_len, uint32_t second,
+                                             const uint8_t *record, size_t record_len);
 
 /* The check of bytes, from start: 0, or the check of what came before. It is the remainder of the message, times x^8,
  * divided by x^8+x^7+x^5+x^4+x^3+x. Of no bytes it is start. No answer as above, but the check itself: nothing is

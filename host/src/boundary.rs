@@ -1,7 +1,8 @@
 //! The C functions of libcrsf.a, each as one safe function on slices that answers C's own word. `include/crsf.h` says what they do.
 //!
-//! Commands, texts, ACKs and popups cross as bytes, their images. Any bytes and any length have an answer; a refusal changes no byte.
-//! The types of this crate are made of these functions; a host calls them where it has images, or wants the bare numbers.
+//! Commands, texts, ACKs and popups cross as bytes, their images, and so do a replay and a question, which are kept between calls. Any
+//! bytes and any length have an answer; a refusal changes no byte. The types of this crate are made of these functions; a host calls them
+//! where it has images, or wants the bare numbers.
 use crate::edits::Edit;
 
 /// The largest length of a payload.
@@ -46,13 +47,17 @@ pub const REPLAY_SIZE: usize = 7;
 /// Bytes of the image of an event.
 pub const EVENT_SIZE: usize = 80;
 
+/// Bytes of the image of a question, the state kept between a popup and its answer.
+pub const QUESTION_SIZE: usize = 66;
+
 /// What a word says: 0, accepted, or the number of a refusal.
 #[inline]
 pub const fn number(word: u32) -> u8 {
     word as u8
 }
 
-/// How many bytes were written, as a word says: 0 but from [`write()`].
+/// What an accepted word counts: the bytes that [`write()`] wrote; how [`question_return`] or [`question_command`] closed a question, as
+/// [`Closed`](crate::Closed) numbers it, 0 where one opened. From every other function it is 0.
 #[inline]
 pub const fn count(word: u32) -> usize {
     (word >> 8 & 0xFF) as usize
@@ -101,6 +106,27 @@ extern "C" {
         len: usize,
         event: *mut u8,
         event_len: usize,
+    ) -> u32;
+    fn crsf_question_ask(
+        question: *mut u8,
+        question_len: usize,
+        second: u32,
+        popup: *const u8,
+        popup_len: usize,
+    ) -> u32;
+    fn crsf_question_return(
+        question: *mut u8,
+        question_len: usize,
+        second: u32,
+        value: u8,
+        response: u8,
+    ) -> u32;
+    fn crsf_question_command(
+        question: *mut u8,
+        question_len: usize,
+        second: u32,
+        record: *const u8,
+        record_len: usize,
     ) -> u32;
     fn crsf_check(bytes: *const u8, len: usize, start: u8) -> u8;
 }
@@ -218,6 +244,30 @@ pub fn replay(replay: &mut [u8], position: u32, block: &[u8], event: &mut [u8]) 
             event.len(),
         )
     }
+}
+
+/// The popup of an image was sent. `question` is changed in place.
+#[inline]
+pub fn question_ask(question: &mut [u8], second: u32, popup: &[u8]) -> u32 {
+    let (at, len) = (question.as_mut_ptr(), question.len());
+    // SAFETY: both slices are valid for the call, and `question` is ours alone.
+    unsafe { crsf_question_ask(at, len, second, popup.as_ptr(), popup.len()) }
+}
+
+/// A value came back; response 1 processes it, 0 cancels. `question` is changed in place; the word has how it closed.
+#[inline]
+pub fn question_return(question: &mut [u8], second: u32, value: u8, response: u8) -> u32 {
+    let (at, len) = (question.as_mut_ptr(), question.len());
+    // SAFETY: the slice is valid for the call, and ours alone.
+    unsafe { crsf_question_return(at, len, second, value, response) }
+}
+
+/// The command of an image was sent, or has come: a popup or a returned value. `question` is changed in place; the word has how it closed.
+#[inline]
+pub fn question_command(question: &mut [u8], second: u32, record: &[u8]) -> u32 {
+    let (at, len) = (question.as_mut_ptr(), question.len());
+    // SAFETY: both slices are valid for the call, and `question` is ours alone.
+    unsafe { crsf_question_command(at, len, second, record.as_ptr(), record.len()) }
 }
 
 /// The check of bytes, from 0 or from the check of what came before them.

@@ -25,13 +25,15 @@ use crate::boundary;
 pub enum CrsfParsingError {
     /// A payload, text or information that is too short or too long; a block of the log that is not 512 bytes.
     InvalidPayloadLength = 1,
-    /// A wrong check, an unknown id or sub-command, a value out of range.
+    /// A wrong check, an unknown id or sub-command, a value out of range; of a call on a question, a command that is neither a popup nor a
+    /// returned value.
     InvalidPayload = 2,
     /// The buffer has too little room.
     BufferOverflow = 3,
     /// Command id 0x03 (Bluetooth) or 0x13 (RC over WiFi).
     FamilyLeftBehind = 4,
-    /// Bytes that are the image of no record, or of no replay. The types here hold none, so that only [`boundary`] can be given one.
+    /// Bytes that are the image of no record, replay or question. The types here hold none, so that only [`boundary`] can be given one, and
+    /// [`Question::from_bytes`](crate::Question::from_bytes).
     RecordNotMade = 5,
     /// An edit of a payload that can be read, though writing what it says gives other bytes.
     NotAsWritten = 6,
@@ -43,6 +45,14 @@ pub enum CrsfParsingError {
     BlockCheck = 9,
     /// A block of the log with a wrong used count or length of a record, or with a byte behind its records that is not 0.
     BlockLayout = 10,
+    /// A call on a question at a second below the last accepted one.
+    ClockBack = 27,
+    /// A popup while another one is open and its time is not over.
+    QuestionOpen = 28,
+    /// A returned value while no popup is open: none was sent, or it was answered before.
+    NoQuestion = 29,
+    /// A returned value, to be processed, that is below min or above max of the popup's selection.
+    ValueOutsideSelection = 30,
 }
 
 impl CrsfParsingError {
@@ -64,6 +74,10 @@ impl CrsfParsingError {
             8 => Self::NumberOutsideRange,
             9 => Self::BlockCheck,
             10 => Self::BlockLayout,
+            27 => Self::ClockBack,
+            28 => Self::QuestionOpen,
+            29 => Self::NoQuestion,
+            30 => Self::ValueOutsideSelection,
             _ => return None,
         })
     }
@@ -80,6 +94,10 @@ impl CrsfParsingError {
             Self::NumberOutsideRange => "number outside range",
             Self::BlockCheck => "block check",
             Self::BlockLayout => "block layout",
+            Self::ClockBack => "clock: the second is below the last accepted one",
+            Self::QuestionOpen => "question open: the last popup can still be answered",
+            Self::NoQuestion => "no question: no popup was sent, or it was answered before",
+            Self::ValueOutsideSelection => "value: not from min to max of the popup's selection",
         }
     }
 }
@@ -104,6 +122,6 @@ pub(crate) fn answer(word: u32) -> Result<usize, CrsfParsingError> {
 pub(crate) fn refusal(number: u8) -> CrsfParsingError {
     match CrsfParsingError::from_number(number) {
         Some(refusal) => refusal,
-        None => unreachable!("the C functions refuse with 1 to 10, not {number}"),
+        None => unreachable!("the C functions refuse with 1 to 10 and 27 to 30, not {number}"),
     }
 }

@@ -1,4 +1,4 @@
-//! Commands, ACKs, a popup's fields, replays and events as the images that cross to C, and back (`include/crsf.h`, "IMAGES").
+//! Commands, ACKs, a popup's fields, replays, events and questions as the images that cross to C, and back (`include/crsf.h`, "IMAGES").
 //!
 //! Every image that comes back from C is that of a record, so that taking one out needs no answer for another.
 use core::fmt;
@@ -9,10 +9,12 @@ use crate::packets::CommandAck;
 mod fields;
 mod log;
 mod numbers;
+mod question;
 mod record;
 
 pub(crate) use fields::{fields, of_fields};
 pub(crate) use log::{between_blocks, event, last_block, more};
+pub(crate) use question::{asked, last_second};
 pub(crate) use record::{command, of_command};
 
 use numbers::{ACK_ACTION, ACK_COMMAND_ID, ACK_LENGTH, ACK_STORED_SIZE, ACK_SUB_COMMAND_ID};
@@ -63,6 +65,14 @@ fn flag(byte: u8) -> bool {
         1 => true,
         _ => unreachable!("{HANDED_OUT}: its flags are 0 or 1, not {byte}"),
     }
+}
+
+fn word(image: &[u8], at: usize) -> u16 {
+    u16::from_be_bytes([image[at], image[at + 1]])
+}
+
+fn long(image: &[u8], at: usize) -> u32 {
+    u32::from(word(image, at)) << 16 | u32::from(word(image, at + 2))
 }
 
 /// The ACK of an image that C handed out.

@@ -1,5 +1,5 @@
-//! CRSF direct commands (frame type 0x32), read, written, constructed, edited and replayed from a log by the C functions of libcrsf.a,
-//! which are proved to answer as their contracts say on any input.
+//! CRSF direct commands (frame type 0x32), read, written, constructed, edited and replayed from a log, and popups matched with what comes
+//! back, by the C functions of libcrsf.a, which are proved to answer as their contracts say on any input.
 //!
 //! The types have the names, cases, fields and Debug texts that they have in the Rust crate uf-crsf. A program that makes direct commands,
 //! reads them from a payload and writes them into one takes this crate in place of uf-crsf by its dependency line alone:
@@ -10,8 +10,8 @@
 //! ```
 //!
 //! Then `use uf_crsf::packets::..` is this crate; with the line `crsf-host = { path = "../host" }` it is `crsf`, as below. What is added:
-//! the errors 4 to 10 ([`CrsfParsingError`]), edits in place ([`edit`], [`edit_list`]), and the replay of a block log ([`Replay`]). What is
-//! left behind:
+//! the errors 4 to 10 and 27 to 30 ([`CrsfParsingError`]), edits in place ([`edit`], [`edit_list`]), the replay of a block log
+//! ([`Replay`]), and popup questions with their answers ([`Question`]). What is left behind:
 //!
 //! - Bluetooth (0x03) and RC over WiFi (0x13): `FamilyLeftBehind`.
 //! - A family's body by itself (`TryFrom<&[u8]>`).
@@ -52,10 +52,12 @@ mod field;
 mod header;
 mod image;
 pub mod packets;
+mod question;
 mod replay;
 
 pub use edits::{edit, edit_list, Edit};
 pub use error::CrsfParsingError;
 pub use field::Field;
 pub use packets::PacketType;
+pub use question::{Closed, Question};
 pub use replay::{Event, Events, Replay};

@@ -7,15 +7,16 @@ mod payloads;
 use blocks::block;
 use crsf::boundary::{
     self, ACK_SIZE, BLOCK_SIZE, EDIT_SIZE, EVENT_SIZE, MAX_INFORMATION, MAX_PAYLOAD, MAX_POPUP,
-    MAX_TEXT, MAX_USED, POPUP_FIELDS_SIZE, POPUP_SIZE, RECORD_SIZE, REPLAY_SIZE, TEXT_SIZE,
+    MAX_TEXT, MAX_USED, POPUP_FIELDS_SIZE, POPUP_SIZE, QUESTION_SIZE, RECORD_SIZE, REPLAY_SIZE,
+    TEXT_SIZE,
 };
 use crsf::packets::{CrsfPacket, DirectCommands};
-use crsf::{edit_list, CrsfParsingError, Edit, Field};
+use crsf::{edit_list, Closed, CrsfParsingError, Edit, Field};
 use header::Names;
 use laid::{record, Laid};
 use payloads::{payload, M1, M3, M3_EDITED};
 
-const REFUSALS: [(&str, CrsfParsingError); 10] = [
+const REFUSALS: [(&str, CrsfParsingError); 14] = [
     (
         "INVALID_PAYLOAD_LENGTH",
         CrsfParsingError::InvalidPayloadLength,
@@ -29,6 +30,16 @@ const REFUSALS: [(&str, CrsfParsingError); 10] = [
     ("OUTSIDE_RANGE", CrsfParsingError::NumberOutsideRange),
     ("WRONG_BLOCK_CHECK", CrsfParsingError::BlockCheck),
     ("WRONG_BLOCK_LAYOUT", CrsfParsingError::BlockLayout),
+    ("CLOCK_BACK", CrsfParsingError::ClockBack),
+    ("STILL_OPEN", CrsfParsingError::QuestionOpen),
+    ("NO_QUESTION", CrsfParsingError::NoQuestion),
+    ("OUTSIDE_SELECTION", CrsfParsingError::ValueOutsideSelection),
+];
+
+const CLOSINGS: [(&str, Closed); 3] = [
+    ("PROCESSED", Closed::Processed),
+    ("CANCELLED", Closed::Cancelled),
+    ("EXPIRED", Closed::Expired),
 ];
 
 /// The header's name of a field: `FIELD_PIT_MODE` of `PitMode`.
@@ -43,7 +54,7 @@ fn named(field: Field) -> (String, u32) {
     (name, field.number())
 }
 
-const SIZES: [(&str, usize); 15] = [
+const SIZES: [(&str, usize); 16] = [
     ("MIN_PAYLOAD", DirectCommands::MIN_PAYLOAD_SIZE),
     ("MAX_PAYLOAD", MAX_PAYLOAD),
     ("MAX_TEXT", MAX_TEXT),
@@ -59,6 +70,7 @@ const SIZES: [(&str, usize); 15] = [
     ("MAX_USED", MAX_USED),
     ("REPLAY_SIZE", REPLAY_SIZE),
     ("EVENT_SIZE", EVENT_SIZE),
+    ("QUESTION_SIZE", QUESTION_SIZE),
 ];
 
 /// Cargo.toml's.
@@ -69,9 +81,10 @@ const VERSION: [(&str, &str); 3] = [
 ];
 
 /// What the header names and the crate shows by what it does: `accepted_is_no_refusal`, `an_edit_lies_as_the_header_says`,
-/// `a_block_lies_as_the_header_says`.
-const SHOWN: [&str; 7] = [
+/// `a_block_lies_as_the_header_says`, `questions_lie_as_the_header_says`.
+const SHOWN: [&str; 8] = [
     "ACCEPTED",
+    "OPENED",
     "EDIT_FIELD",
     "EDIT_NUMBER",
     "BLOCK_NUMBER",
@@ -85,11 +98,13 @@ const SHOWN: [&str; 7] = [
 fn numbers_are_those_of_the_header() {
     let frame_type = ("FRAME_TYPE", DirectCommands::PACKET_TYPE as u32);
     let refusals = REFUSALS.map(|(name, refusal)| (name, refusal.number().into()));
+    let closings = CLOSINGS.map(|(name, closed)| (name, closed as u32));
     let sizes = SIZES.map(|(name, size)| (name, size as u32));
     let version = VERSION.map(|(name, number)| (name, number.parse().unwrap()));
     let ours = [frame_type]
         .into_iter()
         .chain(refusals)
+        .chain(closings)
         .chain(sizes)
         .chain(version);
     let mut ours: Names = ours.map(|(name, number)| (name.into(), number)).collect();
@@ -125,7 +140,7 @@ fn every_number_has_its_field_and_no_other() {
     assert_eq!(Field::from_number(u32::MAX), None);
 }
 
-/// "0 or a refusal in bits 0-7, a count of bytes in bits 8-15, a place in bits 16-31".
+/// "0 or a refusal in bits 0-7, a count in bits 8-15, a place in bits 16-31".
 #[test]
 fn a_word_says_number_count_and_place() {
     let word = 0xFE01 << 16 | 60 << 8 | 7;
@@ -342,4 +357,75 @@ fn replays_and_events_lie_as_the_header_says() {
     hands_on(&kept(NUMBER, 0), &three, &kept(NUMBER, 6), &back(1));
     hands_on(&kept(5, 0), &none, &kept(NUMBER, 0), &gap(0));
     hands_on(&kept(NUMBER, 0), &none, &kept(NUMBER, 0), &back(0));
+}
+
+type Asked = Laid<QUESTION_SIZE>;
+
+/// After an accepted call at that second, closed.
+fn closed(last: u32) -> Asked {
+    Asked::new()
+        .put("QUESTION_STARTED", &[1])
+        .put("QUESTION_LAST", &last.to_be_bytes())
+}
+
+/// The same, and a popup is open that was sent at that second.
+fn open(sent: u32, last: u32, popup: &[u8]) -> Asked {
+    closed(last)
+        .put("QUESTION_OPEN", &[1])
+        .put("QUESTION_SENT", &sent.to_be_bytes())
+        .put("QUESTION_POPUP", popup)
+}
+
+/// What each call leaves of a question, and the word that it answers, by the header's places and names.
+#[test]
+fn questions_lie_as_the_header_says() {
+    const SENT: u32 = 0x8182_8384;
+    // "Hi", 30 seconds
+    let bytes = b"Hi\0\0\x1E\x01";
+    let popup = Laid::<POPUP_SIZE>::new()
+        .put("POPUP_LENGTH", &[6])
+        .put("POPUP_BYTES", bytes)
+        .image;
+    let asks = record("SCREEN", "SCREEN_POPUP_MESSAGE_START").put("RECORD_LENGTH", &popup);
+    let value = |response| {
+        record("SCREEN", "SCREEN_SELECTION_RETURN_VALUE").put("RECORD_VALUES", &[5, response])
+    };
+    let new = Asked::new;
+    let word = |name: &str| (new().at(name) as u32) << 8;
+
+    let ask = |before: Asked, after: Asked| {
+        let (mut one, mut other) = (before.image, before.image);
+        assert_eq!(
+            boundary::question_ask(&mut one, SENT, &popup),
+            word("OPENED")
+        );
+        assert_eq!(
+            boundary::question_command(&mut other, SENT, &asks.image),
+            word("OPENED")
+        );
+        assert_eq!((one, other), (after.image, after.image));
+    };
+    ask(new(), open(SENT, SENT, &popup));
+    ask(closed(SENT), open(SENT, SENT, &popup));
+    // sent 31 seconds ago: it makes way
+    ask(open(SENT - 31, SENT, &popup), open(SENT, SENT, &popup));
+
+    let returns = |second: u32, response: u8, name: &str| {
+        let before = open(SENT, SENT + 1, &popup).image;
+        let (mut one, mut other) = (before, before);
+        assert_eq!(
+            boundary::question_return(&mut one, second, 5, response),
+            word(name)
+        );
+        assert_eq!(
+            boundary::question_command(&mut other, second, &value(response).image),
+            word(name)
+        );
+        let after = closed(second).image;
+        assert_eq!((one, other), (after, after));
+    };
+    returns(SENT + 30, 1, "PROCESSED");
+    returns(SENT + 30, 0, "CANCELLED");
+    returns(SENT + 31, 1, "EXPIRED");
+    returns(SENT + 31, 0, "EXPIRED");
 }

@@ -8,7 +8,7 @@ mod payloads;
 use blocks::{block, closed, laid_out};
 use crsf::boundary::{
     self, ACK_SIZE, BLOCK_SIZE, EVENT_SIZE, MAX_PAYLOAD, POPUP_FIELDS_SIZE, POPUP_SIZE,
-    RECORD_SIZE, REPLAY_SIZE, TEXT_SIZE,
+    QUESTION_SIZE, RECORD_SIZE, REPLAY_SIZE, TEXT_SIZE,
 };
 use laid::{record, Laid};
 use payloads::{payload, M1, M2, M3};
@@ -269,4 +269,177 @@ fn a_damaged_block_is_1_then_9_then_10() {
     assert_eq!(boundary::check(&residue, 0), 0);
     assert_eq!(damage(&residue), 9);
     assert_eq!(damage(&closed(residue, 1)), 9);
+}
+
+type Question = [u8; QUESTION_SIZE];
+
+/// "Hi", 30 seconds, the selection "l" of 15 from 10 to 20.
+const POPUP: &[u8] = b"\x0DHi\0\0\x1E\x01l\0\x0F\x0A\x14\x0F\0";
+
+fn popup(bytes: &[u8]) -> [u8; POPUP_SIZE] {
+    let mut image = [0; POPUP_SIZE];
+    image[..bytes.len()].copy_from_slice(bytes);
+    image
+}
+
+fn open(sent: u32, last: u32, popup: &[u8]) -> Question {
+    Laid::new()
+        .put("QUESTION_STARTED", &[1])
+        .put("QUESTION_OPEN", &[1])
+        .put("QUESTION_SENT", &sent.to_be_bytes())
+        .put("QUESTION_LAST", &last.to_be_bytes())
+        .put("QUESTION_POPUP", popup)
+        .image
+}
+
+/// The number of a call on a question; a refusal leaves all its bytes.
+fn called(question: &[u8], call: impl Fn(&mut [u8]) -> u32) -> u8 {
+    let mut after = question.to_vec();
+    let number = boundary::number(call(&mut after));
+    assert_eq!(after == question, number != 0);
+    number
+}
+
+fn asked(question: &[u8], second: u32, popup: &[u8]) -> u8 {
+    called(question, |after| {
+        boundary::question_ask(after, second, popup)
+    })
+}
+
+fn returned(question: &[u8], second: u32, value: u8, response: u8) -> u8 {
+    let call = |after: &mut [u8]| boundary::question_return(after, second, value, response);
+    called(question, call)
+}
+
+fn commanded(question: &[u8], second: u32, record: &[u8]) -> u8 {
+    called(question, |after| {
+        boundary::question_command(after, second, record)
+    })
+}
+
+/// Of another length, a flag out of range, beyond its limits.
+fn no_questions() -> Vec<Vec<u8>> {
+    let sound = open(100, 120, POPUP);
+    let with = |at: usize, byte: u8| {
+        let mut question = sound.to_vec();
+        question[at] = byte;
+        question
+    };
+    let place = |name| Laid::<QUESTION_SIZE>::new().at(name);
+    vec![
+        vec![],
+        vec![0; QUESTION_SIZE - 1],
+        vec![0; QUESTION_SIZE + 1],
+        sound[1..].to_vec(),
+        [&sound[..], &[0]].concat(),
+        with(place("QUESTION_STARTED"), 2),
+        with(place("QUESTION_STARTED"), 0),
+        with(place("QUESTION_OPEN"), 2),
+        with(place("QUESTION_OPEN"), 0),
+        with(place("QUESTION_SENT"), 1),
+        with(place("QUESTION_POPUP"), 12),
+        with(QUESTION_SIZE - 1, 1),
+        open(121, 120, POPUP).to_vec(),
+        open(100, 120, &[]).to_vec(),
+    ]
+}
+
+#[test]
+fn questions_look_at_the_question_first() {
+    let asks = record("SCREEN", "SCREEN_POPUP_MESSAGE_START").put("RECORD_LENGTH", POPUP);
+    let disarm = record("FC", "FC_FORCE_DISARM");
+    for question in no_questions() {
+        assert_eq!(asked(&question, 0, &popup(POPUP)), 5);
+        assert_eq!(asked(&question, 200, &popup(POPUP)), 5);
+        // a response above 1, a second below the last, a value outside the selection
+        assert_eq!(returned(&question, 0, 0, 2), 5);
+        assert_eq!(returned(&question, 125, 15, 1), 5);
+        // a command that is neither popup nor returned value, one that is
+        assert_eq!(commanded(&question, 0, &disarm.image), 5);
+        assert_eq!(commanded(&question, 200, &asks.image), 5);
+    }
+}
+
+/// "5 for a popup not made, 27 clock, 28 question open, 29 no question, 30 value, in that order"; "`response` above 1 is 2, after 5 and
+/// before 27".
+#[test]
+fn ask_and_return_look_at_what_they_are_given_the_clock_the_question_and_the_value() {
+    let (question, sent) = (open(100, 120, POPUP), popup(POPUP));
+    let closed = Laid::<QUESTION_SIZE>::new()
+        .put("QUESTION_STARTED", &[1])
+        .put("QUESTION_LAST", &120u32.to_be_bytes())
+        .image;
+    // of another length, blank, a byte behind it
+    let mut behind = sent;
+    behind[POPUP_SIZE - 1] = 1;
+    for unmade in [
+        &sent[1..],
+        &[&sent[..], &[0]].concat(),
+        &[],
+        &popup(&[]),
+        &behind,
+    ] {
+        assert_eq!(asked(&question, 119, unmade), 5);
+        assert_eq!(asked(&[0; QUESTION_SIZE], 0, unmade), 5);
+    }
+    assert_eq!(asked(&question, 119, &sent), 27);
+    assert_eq!(asked(&question, 130, &sent), 28);
+    assert_eq!(asked(&question, 131, &sent), 0);
+    assert_eq!(asked(&closed, 119, &sent), 27);
+    assert_eq!(asked(&closed, 120, &sent), 0);
+
+    for response in [2, 3, 255] {
+        assert_eq!(returned(&question, 119, 9, response), 2);
+        assert_eq!(returned(&question, 131, 15, response), 2);
+        assert_eq!(returned(&[0; QUESTION_SIZE], 0, 0, response), 2);
+    }
+    assert_eq!(returned(&question, 119, 9, 1), 27);
+    assert_eq!(returned(&closed, 119, 9, 1), 27);
+    assert_eq!(returned(&closed, 120, 9, 1), 29);
+    assert_eq!(returned(&question, 120, 9, 1), 30);
+    assert_eq!(returned(&question, 120, 10, 1), 0);
+}
+
+/// "Another command is 2 there too, an image of no record 5, a popup not made 5; nothing else of the record is looked at."
+#[test]
+fn a_command_is_judged_before_the_clock() {
+    let question = open(100, 120, POPUP);
+    let asks = || record("SCREEN", "SCREEN_POPUP_MESSAGE_START").put("RECORD_LENGTH", POPUP);
+    let value = |value, response| {
+        record("SCREEN", "SCREEN_SELECTION_RETURN_VALUE").put("RECORD_VALUES", &[value, response])
+    };
+    // no image of a record: another length, an unknown id or sub-command, a flag out of range, a byte behind the values
+    let longer = [&asks().image[..], &[0]].concat();
+    let no_records = [
+        &asks().image[1..],
+        &longer,
+        &[],
+        &asks().put("RECORD_ID", &[0x03]).image,
+        &asks().put("RECORD_SUB_COMMAND", &[0x03]).image,
+        &asks().put("RECORD_VALUES", &[1]).image,
+        &value(15, 2).image,
+        &value(15, 1).put("RECORD_VALUES", &[15, 1, 1]).image,
+    ];
+    for image in no_records {
+        assert_eq!(commanded(&question, 119, image), 5);
+        assert_eq!(commanded(&question, 131, image), 5);
+    }
+    // another command: a frequency that writing would refuse, and one that stores bytes though it has none
+    assert_eq!(commanded(&question, 119, &frequency(4999)), 2);
+    let storing = record("FC", "FC_FORCE_DISARM").put("RECORD_LENGTH", &[200, 1]);
+    assert_eq!(commanded(&question, 119, &storing.image), 2);
+    assert_eq!(commanded(&[0; QUESTION_SIZE], 0, &storing.image), 2);
+    // a popup that is not made
+    let unmade = record("SCREEN", "SCREEN_POPUP_MESSAGE_START");
+    assert_eq!(commanded(&question, 119, &unmade.image), 5);
+
+    assert_eq!(commanded(&question, 119, &asks().image), 27);
+    assert_eq!(commanded(&question, 130, &asks().image), 28);
+    assert_eq!(commanded(&question, 131, &asks().image), 0);
+    assert_eq!(commanded(&question, 119, &value(9, 1).image), 27);
+    assert_eq!(commanded(&[0; QUESTION_SIZE], 0, &value(9, 1).image), 29);
+    assert_eq!(commanded(&question, 120, &value(9, 1).image), 30);
+    // what a returned value stores is not looked at
+    let storing = value(15, 1).put("RECORD_LENGTH", &[255; 56]);
+    assert_eq!(commanded(&question, 120, &storing.image), 0);
 }

@@ -1,5 +1,5 @@
-//! Every number of document 01's table, and those of the log, are had through the crate, with their names and words; and what a refusal
-//! leaves as it was.
+//! Every number of document 01's table, those of the log and those of questions are had through the crate, with their names and words; and
+//! what a refusal leaves as it was.
 mod blocks;
 mod payloads;
 
@@ -7,10 +7,11 @@ use blocks::{block, closed, laid_out, Block};
 use crsf::boundary::{self, POPUP_FIELDS_SIZE, POPUP_SIZE, RECORD_SIZE};
 use crsf::packets::{
     CommandAck, CommandPayload, CommandString, CrsfPacket, DirectCommands, FcCommand,
-    ScreenAdditionalData, ScreenPopup, ScreenPopupFields, ScreenSelection, VtxCommand,
+    ScreenAdditionalData, ScreenCommand, ScreenPopup, ScreenPopupFields, ScreenSelection,
+    VtxCommand,
 };
 use crsf::CrsfParsingError::{self, *};
-use crsf::{edit, edit_list, Edit, Event, Field, Replay};
+use crsf::{edit, edit_list, Edit, Event, Field, Question, Replay};
 use payloads::{command, payload, M2, M3, M3_EDITED};
 
 fn read(payload: &[u8]) -> CrsfParsingError {
@@ -41,9 +42,30 @@ fn damaged(block: Block) -> CrsfParsingError {
     }
 }
 
-/// 1, 2 and 4 by M5, 3 by M10, 5 by "Made", 6 by M2, 7 and 8 by M4, 9 and 10 by document 02's block log.
+/// A popup was sent at second 100: "Hi", 30 seconds, the selection "l" of 15 from 10 to 20.
+fn asked() -> (Question, ScreenPopup) {
+    let body = b"\x01Hi\0\0\x1E\x01l\0\x0F\x0A\x14\x0F\0";
+    let read = DirectCommands::from_bytes(&payload(0x22, body)).unwrap();
+    let CommandPayload::Screen(ScreenCommand::PopupMessageStart(popup)) = read.payload else {
+        panic!("{read:?}");
+    };
+    let mut question = Question::new();
+    question.ask(100, &popup).unwrap();
+    (question, popup)
+}
+
+fn asked_again(second: u32) -> CrsfParsingError {
+    let (mut question, popup) = asked();
+    question.ask(second, &popup).unwrap_err()
+}
+
+fn returned(mut question: Question, value: u8) -> CrsfParsingError {
+    question.returned(130, value, true).unwrap_err()
+}
+
+/// 1, 2 and 4 by M5, 3 by M10, 5 by "Made", 6 by M2, 7 and 8 by M4, 9 and 10 by document 02's block log, 27 to 30 by its questions.
 #[test]
-fn each_of_the_ten() {
+fn each_of_the_fourteen() {
     let disarm = command(CommandPayload::Fc(FcCommand::ForceDisarm));
     let had = [
         (
@@ -88,9 +110,30 @@ fn each_of_the_ten() {
             BlockLayout,
             "block layout (10)",
         ),
+        (
+            asked_again(99),
+            ClockBack,
+            "clock: the second is below the last accepted one (27)",
+        ),
+        (
+            asked_again(130),
+            QuestionOpen,
+            "question open: the last popup can still be answered (28)",
+        ),
+        (
+            returned(Question::new(), 15),
+            NoQuestion,
+            "no question: no popup was sent, or it was answered before (29)",
+        ),
+        (
+            returned(asked().0, 21),
+            ValueOutsideSelection,
+            "value: not from min to max of the popup's selection (30)",
+        ),
     ];
-    assert_eq!(had.len(), 10);
-    for ((refusal, expected, text), number) in had.into_iter().zip(1..) {
+    let numbers = (1..=10).chain(27..=30);
+    assert_eq!(had.len(), numbers.clone().count());
+    for ((refusal, expected, text), number) in had.into_iter().zip(numbers) {
         assert_eq!(refusal, expected);
         assert_eq!(refusal.number(), number);
         assert_eq!(refusal.to_string(), text);

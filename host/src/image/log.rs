@@ -1,6 +1,6 @@
 //! What is kept of a log as the image of a replay, and events from theirs.
 use super::numbers::*;
-use super::{command, flag, HANDED_OUT};
+use super::{command, flag, long, word, HANDED_OUT};
 use crate::boundary::{EVENT_SIZE, RECORD_SIZE, REPLAY_SIZE};
 use crate::error::refusal;
 use crate::replay::Event;
@@ -60,12 +60,4 @@ fn record(image: &Image) -> [u8; RECORD_SIZE] {
     let mut record = [0; RECORD_SIZE];
     record.copy_from_slice(&image[EVENT_RECORD..]);
     record
-}
-
-fn word(image: &[u8], at: usize) -> u16 {
-    u16::from_be_bytes([image[at], image[at + 1]])
-}
-
-fn long(image: &[u8], at: usize) -> u32 {
-    u32::from(word(image, at)) << 16 | u32::from(word(image, at + 2))
 }

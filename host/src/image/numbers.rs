@@ -101,6 +101,13 @@ pub const EVENT_NUMBER: usize = 8;
 pub const EVENT_PAYLOAD_PLACE: usize = 9;
 pub const EVENT_RECORD: usize = 10;
 
+// Places in the image of a question
+pub const QUESTION_STARTED: usize = 0;
+pub const QUESTION_OPEN: usize = 1;
+pub const QUESTION_SENT: usize = 2;
+pub const QUESTION_LAST: usize = 6;
+pub const QUESTION_POPUP: usize = 10;
+
 // Kinds of events
 pub const KIND_NOTHING: u8 = 0;
 pub const KIND_COMMAND: u8 = 1;
@@ -152,6 +159,7 @@ mod tests {
             REPLAY_STARTED REPLAY_BLOCK REPLAY_PLACE
             EVENT_KIND EVENT_MORE EVENT_BLOCK EVENT_PLACE EVENT_NUMBER EVENT_PAYLOAD_PLACE EVENT_RECORD
             KIND_NOTHING KIND_COMMAND KIND_REFUSED KIND_DAMAGED KIND_GAP KIND_STEP_BACK
+            QUESTION_STARTED QUESTION_OPEN QUESTION_SENT QUESTION_LAST QUESTION_POPUP
         };
         // what `Stored` takes for granted: a length, and the bytes right behind it
         let stored = [

@@ -8,17 +8,17 @@ use std::vec::Vec;
 /// Numbers by their names, without the `CRSF_` before each.
 pub type Names = BTreeMap<String, u32>;
 
-/// Of all that the header names, what lies in images (ids, sub-commands, places, kinds), or else the rest: refusals, fields, edits, places
-/// in a block of the log, sizes of whole images, limits and the version. No name stands twice.
+/// Of all that the header names, what lies in images (ids, sub-commands, places, kinds), or else the rest: refusals, closings, fields, edits,
+/// places in a block of the log, sizes of whole images, limits and the version. No name stands twice.
 pub fn names(in_images: bool) -> Names {
     let header = code();
     let mut all = enums(&header);
     all.push(macros(&header));
     let mut names = Names::new();
     for group in all {
-        let refusals = group.contains_key("ACCEPTED");
+        let in_words = group.contains_key("ACCEPTED") || group.contains_key("OPENED");
         for (name, number) in group {
-            if in_images == (!refusals && lies_in_images(&name)) {
+            if in_images == (!in_words && lies_in_images(&name)) {
                 assert_eq!(names.insert(name.clone(), number), None, "{name}");
             }
         }
