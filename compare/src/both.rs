@@ -4,6 +4,7 @@ use std::hint::black_box;
 use std::panic::resume_unwind;
 
 use crate::popups::Popup;
+use crate::question_cases::Call;
 use crate::replay_image::{EVENT_SIZE, KIND, MORE, NUMBER, REFUSED};
 use crate::side::Side;
 use crate::theirs::{self, RUST};
@@ -89,12 +90,13 @@ impl<'a> Both<'a> {
         }
     }
 
+    /// What the Rust leaves of the lent bytes.
     fn lending<T: PartialEq + Debug>(
         &mut self,
         room: usize,
         call: impl Fn(&Side, &mut [u8]) -> T,
         case: impl FnOnce() -> String,
-    ) {
+    ) -> [u8; MOST] {
         let answer = |side: &Side| {
             let mut space = [LENT; MOST];
             let answer = call(side, &mut space[..room]);
@@ -107,6 +109,7 @@ impl<'a> Both<'a> {
             (theirs.0, &theirs.1[..seen]),
             case,
         );
+        theirs.1
     }
 
     pub fn read(&mut self, payload: &[u8]) {
@@ -200,6 +203,22 @@ impl<'a> Both<'a> {
     /// A block handed in again while there is more.
     pub fn replay_block(&mut self, state: &mut [u8], position: u32, block: &[u8]) {
         while self.replay(state, position, block, EVENT_SIZE) {}
+    }
+
+    /// A call on a question, which is left as the Rust leaves it. What is given stays.
+    pub fn question(&mut self, question: &mut [u8], second: u32, call: &Call) {
+        let len = question.len();
+        let made = |side: &Side, lent: &mut [u8]| {
+            lent.copy_from_slice(question);
+            let given = call.clone();
+            let word = given.on(side, lent, second);
+            // a function of C could change it all the same
+            (word, black_box(&given) == call)
+        };
+        let left = self.lending(len, made, || {
+            format!("question {question:02X?} at {second}, {call:02X?}")
+        });
+        question.copy_from_slice(&left[..len]);
     }
 
     pub fn check(&mut self, bytes: &[u8], start: u8) {

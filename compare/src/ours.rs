@@ -1,7 +1,7 @@
 //! Ours: the exported C functions of libcrsf.a and the types over them, by way of host/; and command_again of libagain.a.
 use crsf::boundary;
 
-use crate::side::Side;
+use crate::side::{Questions, Side};
 use crate::types;
 
 extern "C" {
@@ -29,6 +29,11 @@ pub const OURS: Side = Side {
     popup: boundary::popup,
     popup_fields: boundary::popup_fields,
     replay: boundary::replay,
+    questions: Questions {
+        ask: boundary::question_ask,
+        returned: boundary::question_return,
+        command: boundary::question_command,
+    },
     check: boundary::check,
     types: types::host::TYPES,
     until_first: false,

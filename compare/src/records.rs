@@ -1,11 +1,12 @@
 //! Records for crates/vectors: kind (1), length of the input (2, big-endian), input, length of the answer (2), answer.
 use crate::both::LENT;
+use crate::question_cases::{Call, Function};
 use crate::side::{count, number};
 use crate::theirs::{self, RUST};
 use crate::{edits, fields, image};
 
 /// The kinds, by their number; 0 is none.
-pub const KINDS: [&str; 11] = [
+pub const KINDS: [&str; 12] = [
     "",
     "check",
     "payload check",
@@ -17,6 +18,7 @@ pub const KINDS: [&str; 11] = [
     "inspect",
     "edit",
     "edit list",
+    "questions",
 ];
 
 const CHECK: u8 = 1;
@@ -29,6 +31,7 @@ const POPUP: u8 = 7;
 const INSPECT: u8 = 8;
 const EDIT: u8 = 9;
 const EDIT_LIST: u8 = 10;
+const QUESTIONS: u8 = 11;
 
 #[derive(Default)]
 pub struct Records {
@@ -120,5 +123,30 @@ impl Records {
             let answer = [&[word as u8], &edited[..], &answers].concat();
             self.record(EDIT_LIST, &input, &answer);
         }
+    }
+
+    /// Call after call, each with its second, on a question. The answer has of each its number, its count and the question as it is
+    /// then. The words are handed back.
+    pub fn questions(&mut self, question: &[u8], calls: &[(u32, Call)]) -> Vec<u32> {
+        let mut kept = question.to_vec();
+        let mut input = [&[question.len() as u8], question].concat();
+        let (mut answer, mut words) = (Vec::new(), Vec::new());
+        for (second, call) in calls {
+            let function = match call.function {
+                Function::Ask => 1,
+                Function::Return => 2,
+                Function::Command => 3,
+            };
+            input.push(function);
+            input.extend(second.to_be_bytes());
+            input.push(call.given.len() as u8);
+            input.extend(&call.given);
+            let word = call.on(&RUST, &mut kept, *second);
+            answer.extend([number(word), count(word) as u8]);
+            answer.extend(&kept);
+            words.push(word);
+        }
+        self.record(QUESTIONS, &input, &answer);
+        words
     }
 }

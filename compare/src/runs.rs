@@ -4,14 +4,14 @@ use crate::image::{KINDS, SCREEN};
 use crate::popups::{self, Popup};
 use crate::random::Random;
 use crate::side::Side;
-use crate::{cases, edit_cases, every, fields, image, replay_runs};
+use crate::{cases, edit_cases, every, fields, image, question_runs, replay_runs};
 
 /// No payload is longer than 60 bytes, no buffer here than this.
 const LONGEST: usize = 70;
 
 pub type Run = for<'a> fn(&'a Side, u64, u64) -> Both<'a>;
 
-pub const ALL: [(&str, Run); 30] = [
+pub const ALL: [(&str, Run); 38] = [
     ("check, up to 2 bytes in full", short_checks),
     ("check, at random", random_checks),
     ("read, every id with up to 2 bytes of body", short_payloads),
@@ -45,6 +45,26 @@ pub const ALL: [(&str, Run); 30] = [
     ("replay, slices of every length", replay_runs::slices),
     ("replay, states of every kind", replay_runs::states),
     ("replay, logs at random", replay_runs::logs),
+    (
+        "questions, every state around its seconds",
+        question_runs::states,
+    ),
+    ("questions, every timeout", question_runs::timeouts),
+    (
+        "questions, selections and every value",
+        question_runs::selections,
+    ),
+    (
+        "questions, one byte at every place",
+        question_runs::one_byte,
+    ),
+    ("questions, slices of every length", question_runs::slices),
+    ("questions, commands of every kind", question_runs::commands),
+    ("questions, of any bytes", question_runs::any_questions),
+    (
+        "questions, call after call at random",
+        question_runs::sequences,
+    ),
 ];
 
 pub(crate) fn run<'a>(side: &'a Side, work: impl FnOnce(&mut Both<'a>)) -> Both<'a> {

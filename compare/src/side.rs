@@ -11,6 +11,17 @@ pub type Lending = fn(&[u8], &mut [u8]) -> u32;
 /// Of the state and the event both are lent.
 pub type Replay = fn(&mut [u8], u32, &[u8], &mut [u8]) -> u32;
 
+/// Calls on a question, which is lent: it is changed in place.
+#[derive(Clone, Copy)]
+pub struct Questions {
+    /// Question, second, popup image.
+    pub ask: fn(&mut [u8], u32, &[u8]) -> u32,
+    /// Question, second, value, response.
+    pub returned: fn(&mut [u8], u32, u8, u8) -> u32,
+    /// Question, second, record image.
+    pub command: fn(&mut [u8], u32, &[u8]) -> u32,
+}
+
 #[derive(Clone, Copy)]
 pub struct Side {
     /// Payload, record image.
@@ -33,6 +44,7 @@ pub struct Side {
     pub popup_fields: Lending,
     /// State, position, block, event: the state is changed in place.
     pub replay: Replay,
+    pub questions: Questions,
     /// Bytes, start.
     pub check: fn(&[u8], u8) -> u8,
     /// What a Rust host uses.

@@ -1,6 +1,6 @@
 //! The Rust, put behind the same boundary. What it does not have is document 01's: 4 for the families that are left behind, 5 for what
 //! its types cannot hold, a lent slice that keeps its bytes where the answer is a refusal, and edits, put together from its reading, its
-//! types and its writing. The replay is document 02's, over its reading.
+//! types and its writing. The replay is document 02's, over its reading; so are the questions, over its popups.
 use uf_crsf::packets::{
     CommandAck, CommandString, CrsfPacket, DirectCommands, ScreenPopup, COMMAND_CRC_ALGO,
 };
@@ -10,8 +10,9 @@ use crate::changes::Change;
 use crate::edits;
 use crate::fields;
 use crate::image;
+use crate::question_image;
 use crate::replay_image;
-use crate::side::Side;
+use crate::side::{Questions, Side};
 use crate::types::{self, Types};
 
 const LENGTH: u32 = 1;
@@ -250,6 +251,11 @@ pub const RUST: Side = Side {
     popup,
     popup_fields,
     replay: replay_image::replay,
+    questions: Questions {
+        ask: question_image::ask,
+        returned: question_image::returned,
+        command: question_image::command,
+    },
     check,
     types: TYPES,
     until_first: false,

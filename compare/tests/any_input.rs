@@ -3,7 +3,7 @@ use compare::block_cases;
 use compare::both::LENT;
 use compare::edits;
 use compare::ours::OURS;
-use compare::side::Side;
+use compare::side::{Questions, Side};
 use compare::theirs::RUST;
 
 // No slice of Rust's has a null pointer, so that these are called as C calls them.
@@ -28,6 +28,27 @@ extern "C" {
         len: usize,
         event: *mut u8,
         event_len: usize,
+    ) -> u32;
+    fn crsf_question_ask(
+        question: *mut u8,
+        question_len: usize,
+        second: u32,
+        popup: *const u8,
+        popup_len: usize,
+    ) -> u32;
+    fn crsf_question_return(
+        question: *mut u8,
+        question_len: usize,
+        second: u32,
+        value: u8,
+        response: u8,
+    ) -> u32;
+    fn crsf_question_command(
+        question: *mut u8,
+        question_len: usize,
+        second: u32,
+        record: *const u8,
+        record_len: usize,
     ) -> u32;
 }
 
@@ -79,6 +100,35 @@ fn null_pointers_with_length_0_are_slices_of_a_replay() {
     assert_eq!(unsafe { crsf_replay(at, 7, 1, none, 0, to, 80) }, 0);
     assert_eq!(state, [0; 7]);
     assert_eq!(event[..10], [3, 0, 0, 0, 0, 1, 0, 0, 1, 0]);
+}
+
+#[test]
+fn null_pointers_with_length_0_are_slices_of_a_question() {
+    let (none, nothing) = (std::ptr::null(), std::ptr::null_mut());
+    let mut new = [0; 66];
+    for (question, len) in [(nothing, 0), (new.as_mut_ptr(), 66)] {
+        assert_eq!(unsafe { crsf_question_ask(question, len, 1, none, 0) }, 5);
+        assert_eq!(
+            unsafe { crsf_question_command(question, len, 1, none, 0) },
+            5
+        );
+    }
+    assert_eq!(unsafe { crsf_question_return(nothing, 0, 1, 2, 1) }, 5);
+    assert_eq!(new, [0; 66]);
+}
+
+#[test]
+fn a_megabyte_is_no_question_no_popup_and_no_record() {
+    let mut large = vec![0; 1 << 20];
+    let Questions {
+        ask,
+        returned,
+        command,
+    } = OURS.questions;
+    assert_eq!(ask(&mut [0; 66], 1, &large), 5);
+    assert_eq!(command(&mut [0; 66], 1, &large), 5);
+    assert_eq!(returned(&mut large, 1, 2, 1), 5);
+    assert!(large.iter().all(|byte| *byte == 0));
 }
 
 /// The block is only given. Here no reference of Rust's says that it stays as it is.

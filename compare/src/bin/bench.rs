@@ -3,7 +3,8 @@
 //! bench fields: prints the fields that are edited.
 //!
 //! SIDE is ours or rust. WHAT is check, or again:FAMILY, read:FAMILY, write:FAMILY, edit:FIELD, list:FIELD (ours alone; COUNT is that of
-//! the edits), or edit or list, which take all fields by turns, or replay, of which a call is a whole block, event by event.
+//! the edits), or edit or list, which take all fields by turns, or replay, of which a call is a whole block, event by event,
+//! or question, of which a call is a popup asked, and answered at its timeout.
 use std::hint::black_box;
 use std::time::Instant;
 
@@ -12,10 +13,15 @@ use compare::cases::payload;
 use compare::changes::{self, Row, ROWS};
 use compare::edits;
 use compare::every::ADDRESSES;
+use compare::fields;
 use compare::image::{self, FAMILIES};
 use compare::ours::OURS;
+use compare::question::{Done, Question};
+use compare::question_cases;
+use compare::question_image;
 use compare::replay::{self, Event, Replay};
 use compare::replay_image::{EVENT_SIZE, MORE, STATE_SIZE};
+use compare::side::Questions;
 use compare::theirs::{self, RUST};
 use uf_crsf::packets::{CrsfPacket, DirectCommands};
 
@@ -220,6 +226,42 @@ fn replay(ours: bool, times: u64) {
     assert_eq!(events, times * commands, "was not replayed");
 }
 
+/// The popup that is asked, and a value of its selection.
+fn asked() -> ([u8; fields::POPUP_SIZE], u8) {
+    let mut popup = [0; fields::POPUP_SIZE];
+    fields::put_stored(&mut popup, &changes::POPUP[1..]);
+    (popup, 10)
+}
+
+/// A popup asked, and answered at its timeout: images, judged at each call.
+fn question(times: u64) {
+    const TIMEOUT: u32 = 30;
+    let Questions { ask, returned, .. } = OURS.questions;
+    let (popup, value) = asked();
+    let mut kept = [0; question_image::SIZE];
+    let mut second = 0;
+    repeated(times, || {
+        black_box(ask(black_box(&mut kept), second, black_box(&popup)));
+        second += TIMEOUT;
+        black_box(returned(black_box(&mut kept), second, black_box(value), 1));
+    });
+    assert_eq!(kept, question_cases::closed(second), "was not answered");
+}
+
+/// The same by the Rust's as a value, of which the popup is one, too: nothing is left to judge.
+fn question_value(times: u64) {
+    let (popup, value) = asked();
+    let popup = fields::popup(&popup).expect("a popup that is made");
+    let mut kept = Question::default();
+    let mut answered = 0;
+    repeated(times, || {
+        let asked = black_box(&mut kept).ask(7, black_box(&popup).clone());
+        let closed = black_box(&mut kept).returned(7, black_box(value), true);
+        answered += u64::from((asked, closed) == (Ok(Done::Opened), Ok(Done::Processed)));
+    });
+    assert_eq!(answered, times, "was not answered");
+}
+
 /// The rows of a field, or of all.
 fn rows(field: &str) -> impl Iterator<Item = Row> + '_ {
     ROWS.into_iter()
@@ -250,7 +292,9 @@ fn main() {
         "edit" => rows(which).for_each(|row| edit(row, ours, count)),
         "list" => rows(which).for_each(|row| list(row, count)),
         "replay" => replay(ours, count),
-        _ => panic!("check, again, read, write, edit, list or replay"),
+        "question" if ours => question(count),
+        "question" => question_value(count),
+        _ => panic!("check, again, read, write, edit, list, replay or question"),
     };
     match words.get(2) {
         Some(count) => work(count.parse().expect("a count")),

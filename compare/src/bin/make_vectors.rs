@@ -1,13 +1,18 @@
 //! make_vectors [--check]: writes the Rust's answers to crates/vectors/stdin, or says whether they are what stands there.
+use std::collections::BTreeSet;
 use std::process::ExitCode;
 
 use compare::cases::{self, payload};
 use compare::every::ADDRESSES;
-use compare::image::{FAMILIES, KINDS};
+use compare::image::{self, FAMILIES, KINDS};
+use compare::question_cases::{
+    self, closed, open, popup_record, value_record, with_selection, without_selection, Call,
+};
+use compare::question_image;
 use compare::random::Random;
 use compare::records::{self, Records};
 use compare::theirs::RUST;
-use compare::{edit_cases, edits, stored};
+use compare::{edit_cases, edits, fields, stored};
 
 const SEED: u64 = 0x0132;
 
@@ -146,6 +151,146 @@ fn editing(list: &mut Records, random: &mut Random) {
     });
 }
 
+/// Every answer, worked out call after call.
+fn conversations(list: &mut Records) {
+    const END: u32 = u32::MAX;
+    let new = [0; question_image::SIZE];
+    let (plain, selection) = (without_selection(5), with_selection(5, 10, 20));
+    let kept = open(100, 100, &selection);
+    let asks = || Call::ask(&plain);
+    let selects = || Call::ask(&selection);
+    let answer = Call::answer;
+    let sends = |popup| Call::command(&popup_record(popup));
+    let value = |value, response| Call::command(&value_record(value, response));
+    let disarm = || Call::command(&image::with(image::FC, 0x01, &[], &[]));
+    let mut words = BTreeSet::new();
+    let mut on = |question: &[u8], calls: &[(u32, Call)]| {
+        words.extend(list.questions(question, calls));
+    };
+
+    // in time and once, at its own second, at the timeout and one later
+    let calls = [
+        (100, asks()),
+        (103, answer(7, 1)),
+        (103, answer(7, 1)),
+        (102, answer(7, 1)),
+        (102, asks()),
+    ];
+    on(&new, &calls);
+    on(
+        &new,
+        &[(0, answer(9, 0)), (0, selects()), (0, answer(9, 0))],
+    );
+    on(&new, &[(100, asks()), (105, asks()), (105, answer(255, 1))]);
+    on(
+        &new,
+        &[
+            (100, asks()),
+            (106, answer(0, 1)),
+            (106, answer(0, 1)),
+            (105, asks()),
+        ],
+    );
+    on(
+        &new,
+        &[(100, asks()), (106, selects()), (111, answer(20, 1))],
+    );
+
+    // both edges of a selection, in time and late
+    on(
+        &kept,
+        &[
+            (101, answer(9, 1)),
+            (101, answer(21, 1)),
+            (99, answer(9, 1)),
+            (105, answer(10, 1)),
+        ],
+    );
+    on(&kept, &[(100, answer(20, 1))]);
+    on(&kept, &[(106, answer(21, 1)), (106, selects())]);
+
+    // at the largest second, where a sum would be 253
+    let waits = Call::ask(&without_selection(255));
+    on(
+        &new,
+        &[
+            (END - 1, waits),
+            (END, asks()),
+            (253, answer(0, 1)),
+            (END, answer(0, 1)),
+        ],
+    );
+    on(
+        &closed(END),
+        &[(END - 1, asks()), (END, asks()), (0, answer(0, 1))],
+    );
+
+    // what comes before the clock, and what behind it
+    let calls = [
+        (99, answer(0, 2)),
+        (99, Call::ask(&[0; fields::POPUP_SIZE])),
+        (99, disarm()),
+        (99, asks()),
+        (101, asks()),
+    ];
+    on(&kept, &calls);
+
+    // by commands
+    let calls = [
+        (7, sends(&selection)),
+        (8, value(21, 1)),
+        (8, value(21, 0)),
+        (8, value(21, 0)),
+        (8, disarm()),
+    ];
+    on(&new, &calls);
+    let calls = [
+        (7, sends(&plain)),
+        (8, sends(&plain)),
+        (6, value(0, 1)),
+        (13, value(0, 2)),
+        (13, value(0, 1)),
+    ];
+    on(&new, &calls);
+    on(
+        &kept,
+        &[(105, value(20, 1)), (105, sends(&[0; fields::POPUP_SIZE]))],
+    );
+
+    // beyond their limits, and of another length
+    let later = open(101, 100, &plain);
+    on(
+        &later,
+        &[(101, asks()), (101, answer(0, 2)), (101, disarm())],
+    );
+    on(&new[1..], &[(0, asks()), (0, answer(0, 0))]);
+    on(&[&kept[..], &[0]].concat(), &[(100, answer(10, 1))]);
+    on(&[], &[(0, asks())]);
+
+    let every = [0, 0x100, 0x200, 0x300, 2, 5, 27, 28, 29, 30];
+    assert_eq!(words, BTreeSet::from(every));
+}
+
+/// Those that are set out, then call after call at random, on new questions and on kept ones.
+fn asking(list: &mut Records, random: &mut Random) {
+    conversations(list);
+    let popups = question_cases::all_forms(&[(10, 20), (0, 255), (5, 5)]);
+    for turn in 0..24 {
+        let question = match turn % 2 {
+            0 => vec![0; question_image::SIZE],
+            _ => question_cases::question(random, &popups),
+        };
+        let mut kept = question.clone();
+        // as many as a record has room for
+        let calls: [(u32, Call); 5] = std::array::from_fn(|_| {
+            let (second, call) = question_cases::call(random, &kept, &popups);
+            call.on(&RUST, &mut kept, second);
+            (second, call)
+        });
+        list.questions(&question, &calls);
+    }
+}
+
 fn main() -> ExitCode {
     let mut list = Records::default();
     let mut random = Random(SEED);
@@ -155,6 +300,7 @@ fn main() -> ExitCode {
     writing(&mut list, &mut random);
     making(&mut list, &mut random);
     editing(&mut list, &mut random);
+    asking(&mut list, &mut random);
     let counts: Vec<String> = (1..records::KINDS.len())
         .map(|kind| format!("{} of {}", list.count[kind], records::KINDS[kind]))
         .collect();

@@ -3,20 +3,31 @@
 mod checks;
 mod editors;
 mod makers;
+mod questions;
 mod readers;
 mod replays;
 mod types;
 mod writers;
 
+use std::hint::black_box;
 use std::panic::catch_unwind;
 
 use compare::both::Differs;
+use compare::question_runs;
 use compare::runs::{self, Run};
-use compare::side::Side;
+use compare::side::{Questions, Side};
 use compare::theirs::RUST;
 
 const ROUNDS: u64 = 50_000;
 const SEED: u64 = 1;
+
+/// Changes what is only given, as a function of C might, which has the address alone.
+fn spoil(given: &[u8]) {
+    if let Some(last) = given.last() {
+        let address = black_box(last as *const u8 as usize);
+        unsafe { (address as *mut u8).write_volatile(!*last) };
+    }
+}
 
 fn passes(run: Run, right: &Side) {
     let both = run(right, ROUNDS, SEED);
@@ -101,5 +112,35 @@ fn a_wrong_type_is_seen() {
 fn a_wrong_replay_is_seen() {
     for &(what, run, replay) in replays::REPLAYS {
         is_seen(what, run, &Side { replay, ..RUST });
+    }
+}
+
+#[test]
+fn a_wrong_question_is_seen() {
+    let side = Side {
+        questions: questions::QUESTIONS,
+        ..RUST
+    };
+    for &(what, run, wrong) in questions::WRONG {
+        questions::stand(wrong);
+        is_seen(what, run, &side);
+    }
+}
+
+#[test]
+fn a_changed_popup_or_record_is_seen() {
+    let right = RUST.questions;
+    let ask = |question: &mut [u8], second, popup: &[u8]| {
+        let word = (RUST.questions.ask)(question, second, popup);
+        spoil(popup);
+        word
+    };
+    let command = |question: &mut [u8], second, record: &[u8]| {
+        let word = (RUST.questions.command)(question, second, record);
+        spoil(record);
+        word
+    };
+    for questions in [Questions { ask, ..right }, Questions { command, ..right }] {
+        is_seen("spoilt", question_runs::states, &Side { questions, ..RUST });
     }
 }

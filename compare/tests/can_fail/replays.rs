@@ -646,11 +646,7 @@ pub const REPLAYS: &[(&str, Run, Replay)] = &[
         runs::fills,
         |state, position, block, event| {
             let word = (RUST.replay)(state, position, block, event);
-            if let Some(last) = block.last() {
-                // as a function of C might, which has the address alone
-                let address = std::hint::black_box(last as *const u8 as usize);
-                unsafe { (address as *mut u8).write_volatile(!*last) };
-            }
+            crate::spoil(block);
             word
         },
     ),

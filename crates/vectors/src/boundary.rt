@@ -17,7 +17,7 @@ fn untouched(s: &[u8], from: usize) -> bool {
 }
 
 // The word's number is the stored one, its count is that of the bytes where they are counted, its place 0.
-fn is_word(word: u32, number: u8, count: usize) -> bool {
+pub(crate) fn is_word(word: u32, number: u8, count: usize) -> bool {
     word % 256 == number as u32 && word / 256 == (count % 256) as u32
 }
 

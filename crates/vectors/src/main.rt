@@ -2,6 +2,7 @@
 ghost use Prim.Native.Nat.{_<_};
 use commands::DirectCommands;
 
+mod asked;
 mod boundary;
 mod edited;
 mod plain;
@@ -20,7 +21,7 @@ enum Record {
 
 // Of each kind, by its number; what is no kind counts as 0.
 struct Tally {
-    kinds: [u64; 11],
+    kinds: [u64; 12],
     differ: u64,
     cut: u64,
 }
@@ -44,6 +45,8 @@ const INSPECT: u8 = 8;
 const EDIT: u8 = 9;
 
 const EDIT_LIST: u8 = 10;
+
+const QUESTIONS: u8 = 11;
 
 // A length of two bytes, then that many bytes, which go to the start of `space`.
 fn read_part(space: &mut [u8]) -> Part {
@@ -83,6 +86,7 @@ fn agrees(kind: u8, input: &[u8], stored: &[u8]) -> bool {
         INSPECT => boundary::inspect_agrees(input, stored),
         EDIT => edited::edit_agrees(input, stored),
         EDIT_LIST => edited::edit_list_agrees(input, stored),
+        QUESTIONS => asked::questions_agree(input, stored),
         _ => false,
     }
 }
@@ -128,9 +132,9 @@ fn one_more(n: u64) -> u64 {
 }
 
 fn place_of(kind: u8) -> usize
-    ensures { λ r. ⌜ r < 11 ⌝ }
+    ensures { λ r. ⌜ r < 12 ⌝ }
 {
-    if kind < 11 { kind as usize } else { 0 }
+    if kind < 12 { kind as usize } else { 0 }
 }
 
 fn counted(t: Tally, r: Record) -> Tally {
@@ -181,7 +185,7 @@ fn name_differing(r: Record, n: u64) {
 // A proved loop has to end, and nothing says that the input does: no list has as many records as this loop has turns.
 fn replay() -> Tally {
     let mut tally = Tally {
-        kinds: [0u64; 11],
+        kinds: [0u64; 12],
         differ: 0,
         cut: 0,
     };
@@ -209,6 +213,7 @@ fn main() {
     print_line(b"inspect ", kinds[8]);
     print_line(b"edit ", kinds[9]);
     print_line(b"edit list ", kinds[10]);
+    print_line(b"questions ", kinds[11]);
     print_line(b"differ ", tally.differ);
     print_line(b"cut ", tally.cut);
 }
