@@ -1,4 +1,6 @@
 // A whole command read and written again: for measuring beside the Rust. Nothing of the product calls it.
+#![tactic(auto)]
+
 ghost use Rattle.commands.specs.Reading.{read_command};
 ghost use Rattle.images.specs.Word.{WritesOut};
 

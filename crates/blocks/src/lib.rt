@@ -1,4 +1,6 @@
 // Document 02, Wish 1: a block of 512 bytes, its layout and its check, and its records as a walk. Nothing here knows of a log.
+#![tactic(auto)]
+
 ghost use Rattle.std.specs.Prelude.{◌≡◌, ◌≤◌, ◌<◌, length};
 ghost use Rattle.blocks.specs.Block.{block_number};
 ghost use Rattle.blocks.specs.Walk.{damage_number, opening_of, told_judged, place_before, record_at, told_walked};
@@ -25,7 +27,7 @@ const MIN_RECORD: usize = 4;
 const MAX_RECORD: usize = 60;
 
 // Why a block is refused.
-#[derive(Drop)]
+#[derive(Clone, Copy)]
 pub enum Damage {
     NotABlock,
     BlockCheck,
@@ -33,14 +35,14 @@ pub enum Damage {
 }
 
 // A sound block's number, and the place of its first record's length byte, 0 where it has none.
-#[derive(Drop)]
+#[derive(Clone, Copy)]
 pub enum Judged {
     Sound { number: u32, first: usize },
     Damaged(Damage),
 }
 
 // A record's block number, the place behind its payload, and that of the next record's length byte, 0 behind the last.
-#[derive(Drop)]
+#[derive(Clone, Copy)]
 pub enum Walked {
     Record {
         number: u32,

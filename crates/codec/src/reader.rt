@@ -8,7 +8,7 @@ ghost use Rattle.codec.specs.Taking.{ReadsNumber, ReadsText, behind_item, TakesN
 
 use crate::refusal::Refusal;
 
-#[derive(Drop)]
+#[derive(Clone, Copy)]
 pub enum Width {
     One,
     Two,
@@ -16,13 +16,13 @@ pub enum Width {
     Four,
 }
 
-#[derive(Drop)]
+#[derive(Clone, Copy)]
 pub enum NumberRead {
     Got(u32),
     Refused(Refusal),
 }
 
-#[derive(Drop)]
+#[derive(Clone, Copy)]
 pub enum FlagRead {
     Got(bool),
     Refused(Refusal),
@@ -32,7 +32,7 @@ pub enum FlagRead {
 pub const MAX_COMMAND_STRING_LEN: usize = 51;
 
 // A text: how many bytes stand before its 00, and the place after it.
-#[derive(Drop)]
+#[derive(Clone, Copy)]
 pub enum TextRead {
     Got { len: usize, next: usize },
     Refused(Refusal),

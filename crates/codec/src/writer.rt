@@ -10,7 +10,7 @@ use crate::reader::{Width, beyond, bytes_of};
 use crate::refusal::Refusal;
 
 // What writing a body answers.
-#[derive(Drop)]
+#[derive(Clone, Copy)]
 pub enum Written {
     Count(usize),
     Refused(Refusal),

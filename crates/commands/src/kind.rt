@@ -22,7 +22,7 @@ use families::payload::{
 };
 use families::vtx::VtxRead;
 
-#[derive(Drop)]
+#[derive(Clone, Copy)]
 pub enum KindRead {
     Got { payload: CommandPayload, len: usize },
     Refused(Refusal),

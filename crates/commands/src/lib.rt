@@ -1,4 +1,6 @@
 // The payload of a frame of type 0x32, whole: the Rust's commands.rs.
+#![tactic(auto)]
+
 ghost use Rattle.std.specs.Prelude.{◌≡◌, length};
 ghost use Rattle.codec.specs.Sheet.{refused};
 ghost use Rattle.codec.specs.Refusals.{refusal_number, outcome_number};
@@ -21,7 +23,7 @@ mod writing;
 const MAX_PAYLOAD_SIZE: usize = 60;
 
 // A command. A popup's bytes and an ACK's information stand beside its family's enum.
-#[derive(Drop)]
+#[derive(Clone, Copy)]
 pub struct DirectCommands {
     pub dst_addr: u8,
     pub src_addr: u8,
@@ -30,7 +32,7 @@ pub struct DirectCommands {
     pub bytes: [u8; MAX_POPUP_DATA_LEN],
 }
 
-#[derive(Drop)]
+#[derive(Clone, Copy)]
 pub struct CommandAnswer {
     pub outcome: Outcome,
     pub command: DirectCommands,

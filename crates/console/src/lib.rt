@@ -2,6 +2,8 @@
 // standard error, with the name that the caller gives.
 //
 // What the system answers is its own: the contracts say what is certain whatever it answers.
+#![tactic(auto)]
+
 ghost use Rattle.std.specs.Prelude.{true, [], ◌≡◌, ◌≤◌, length};
 ghost use Rattle.text.specs.Putting.{PutsBehind};
 ghost use Rattle.console.specs.Names.{argument_of, name_of, Named, NamedIn, Sized};
@@ -11,14 +13,14 @@ use codec::writer::put_bytes;
 use libc::{STDERR_FILENO, STDIN_FILENO, STDOUT_FILENO};
 
 // An input, with the length of its name as an error tells it; or none, and why was said.
-#[derive(Drop)]
+#[derive(Clone, Copy)]
 pub enum Input {
     Opened { fd: i32, len: usize },
     None,
 }
 
 // What a read gives: so many bytes, at the front; the input has ended; or an error, which was said.
-#[derive(Drop)]
+#[derive(Clone, Copy)]
 pub enum Chunk {
     Bytes(usize),
     End,
@@ -26,7 +28,7 @@ pub enum Chunk {
 }
 
 // What an argument asks for: standard input; nothing that is known; or a file.
-#[derive(Drop)]
+#[derive(Clone, Copy)]
 enum Argument {
     StandardInput,
     Unknown,

@@ -1,4 +1,6 @@
 // The check of document 01, "The payload and its check": the Rust's COMMAND_CRC_ALGO, by bit.
+#![tactic(auto)]
+
 ghost use Rattle.std.specs.Prelude.{◌≡◌, ◌-◌, ◌*◌, replicate};
 ghost use Rattle.crc.specs.Check.{command_polynomial, check_from, typed_check};
 ghost use Rattle.crc.specs.Steps.{step, steps};

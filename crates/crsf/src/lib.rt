@@ -1,4 +1,6 @@
 // The functions that C and Rust call: numbers and byte slices only (include/crsf.h).
+#![tactic(auto)]
+
 pub mod command;
 pub mod edit;
 pub mod log;

@@ -2,6 +2,8 @@
 //
 // No contract of the kit says which bytes a call of C's writes. So the functions that hand a text to be written have a `requires` that
 // says which text it is.
+#![tactic(auto)]
+
 ghost use Rattle.std.specs.Prelude.{◌≤◌, length};
 ghost use Rattle.listing.specs.Chunks.{After};
 ghost use Rattle.listing.specs.Parts.{text_of_closing};
@@ -17,7 +19,7 @@ use listing::{Listed, Listing, Stop};
 const NAME_ROOM: usize = 4107;
 
 // What was listed of a chunk: the state behind it, the number of its last part, and whether all of it was written.
-#[derive(Drop)]
+#[derive(Clone, Copy)]
 struct Progress {
     state: Listing,
     last: u64,

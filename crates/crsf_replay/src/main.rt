@@ -2,6 +2,8 @@
 //
 // No contract of the kit says which bytes a call of C's writes. So the functions that hand a text to be written have a `requires` that
 // says which text it is.
+#![tactic(auto)]
+
 ghost use Rattle.std.specs.Prelude.{◌≡◌, ◌≤◌, length};
 ghost use Rattle.text.specs.Putting.{Front};
 ghost use Rattle.replay_lines.specs.Lines.{most_text};
@@ -19,14 +21,14 @@ use replay::Replay;
 const NAME_ROOM: usize = 4109;
 
 // What was read of a block: so many bytes, fewer than it has where the input ended; or an error, which was said.
-#[derive(Drop)]
+#[derive(Clone, Copy)]
 enum Filled {
     Bytes(usize),
     Failed,
 }
 
 // The state behind a block, and whether its lines were written.
-#[derive(Drop)]
+#[derive(Clone, Copy)]
 struct Progress {
     state: Replay,
     wrote: bool,

@@ -17,7 +17,7 @@ use families::vtx::VtxCommand;
 
 // The payload's length as written; the rows of the table from first up to end, beside the addresses'; the places that are not fixed.
 // near: of the only or start colour, or of a popup's timeout; far: of a selection's value.
-#[derive(Drop)]
+#[derive(Clone, Copy)]
 pub(crate) struct Layout {
     pub size: usize,
     pub first: usize,

@@ -1,4 +1,6 @@
 // Edits in place: one, and any list of them. Added by this port; the Rust has none. The answer is a number of 01, 0 where accepted.
+#![tactic(auto)]
+
 ghost use Rattle.edits.specs.Edit.{EditIs, ListIs};
 
 use crate::opening::Opening;

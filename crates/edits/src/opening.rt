@@ -10,7 +10,7 @@ use commands::kind::KindRead;
 use families::payload::CommandPayload;
 use families::vtx::VtxCommand;
 
-#[derive(Drop)]
+#[derive(Clone, Copy)]
 pub(crate) enum Opening {
     Got(Layout),
     Refused(Refusal),

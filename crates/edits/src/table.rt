@@ -4,7 +4,7 @@ ghost use Rattle.edits.specs.Table.{origin_from, place_in, row_from, InPayload, 
 
 // A field: its row's index, how many bytes hold it, its range, and the place of those bytes. In the number n of those bytes the field
 // is n / unit % many.
-#[derive(Drop)]
+#[derive(Clone, Copy)]
 pub(crate) struct FieldRow {
     pub index: usize,
     pub width: usize,
@@ -23,7 +23,7 @@ const NEAR: usize = 1;
 const FAR: usize = 2;
 
 // A row: the field's number; how many bytes hold it; low, high; what its place counts from, and that place; unit, many.
-#[derive(Drop)]
+#[derive(Clone, Copy)]
 struct Field(u32, usize, u32, u32, usize, usize, u32, u64);
 
 const FIELD_COUNT: usize = 32;

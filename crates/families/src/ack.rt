@@ -21,14 +21,14 @@ const INFORMATION_AT: usize = 3;
 const LEN_WITHOUT_INFORMATION: usize = 4;
 
 // The information stands beside it.
-#[derive(Drop)]
+#[derive(Clone, Copy)]
 pub struct CommandAck {
     pub command_id: u8,
     pub sub_command_id: u8,
     pub action: u8,
 }
 
-#[derive(Drop)]
+#[derive(Clone, Copy)]
 pub struct AckAnswer {
     pub outcome: Outcome,
     pub ack: CommandAck,

@@ -30,7 +30,7 @@ pub const SUB_COMMAND_ID_CROSSFIRE_FACTORY_RESET: u8 = 0x0C;
 
 pub const SUB_COMMAND_ID_CROSSFIRE_RESET_TO_FACTORY_FIRMWARE: u8 = 0x0D;
 
-#[derive(Drop)]
+#[derive(Clone, Copy)]
 pub enum CrossfireCommand {
     SetReceiverInBindMode,
     CancelBindMode,
@@ -44,7 +44,7 @@ pub enum CrossfireCommand {
     ResetToFactoryFirmware,
 }
 
-#[derive(Drop)]
+#[derive(Clone, Copy)]
 pub enum CrossfireRead {
     Got(CrossfireCommand),
     Refused(Refusal),

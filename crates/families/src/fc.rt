@@ -14,13 +14,13 @@ pub const SUB_COMMAND_ID_FC_FORCE_DISARM: u8 = 0x01;
 
 pub const SUB_COMMAND_ID_FC_SCALE_CHANNEL: u8 = 0x02;
 
-#[derive(Drop)]
+#[derive(Clone, Copy)]
 pub enum FcCommand {
     ForceDisarm,
     ScaleChannel,
 }
 
-#[derive(Drop)]
+#[derive(Clone, Copy)]
 pub enum FcRead {
     Got(FcCommand),
     Refused(Refusal),

@@ -15,7 +15,7 @@ pub const SUB_COMMAND_ID_FLOW_CONTROL_SUBSCRIBE: u8 = 0x01;
 
 pub const SUB_COMMAND_ID_FLOW_CONTROL_UNSUBSCRIBE: u8 = 0x02;
 
-#[derive(Drop)]
+#[derive(Clone, Copy)]
 pub enum FlowControlCommand {
     Subscribe {
         frame_type: u8,
@@ -26,7 +26,7 @@ pub enum FlowControlCommand {
     },
 }
 
-#[derive(Drop)]
+#[derive(Clone, Copy)]
 pub enum FlowControlRead {
     Got(FlowControlCommand),
     Refused(Refusal),

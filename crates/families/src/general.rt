@@ -16,13 +16,13 @@ pub const SUB_COMMAND_ID_GENERAL_SPEED_PROPOSAL: u8 = 0x70;
 
 pub const SUB_COMMAND_ID_GENERAL_SPEED_PROPOSAL_RESPONSE: u8 = 0x71;
 
-#[derive(Drop)]
+#[derive(Clone, Copy)]
 pub enum GeneralCommand {
     SpeedProposal { port_id: u8, proposed_baudrate: u32 },
     SpeedProposalResponse { port_id: u8, accepted: bool },
 }
 
-#[derive(Drop)]
+#[derive(Clone, Copy)]
 pub enum GeneralRead {
     Got(GeneralCommand),
     Refused(Refusal),

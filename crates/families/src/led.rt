@@ -14,20 +14,20 @@ use codec::reader::{NumberRead, Reader, Width};
 use codec::refusal::Refusal;
 use codec::writer::{SUB_COMMAND_LEN, Written, put_byte, put_number, values_first, write_alone};
 
-#[derive(Drop)]
+#[derive(Clone, Copy)]
 pub struct LedColor {
     pub hue: u16,
     pub saturation: u8,
     pub value: u8,
 }
 
-#[derive(Drop)]
+#[derive(Clone, Copy)]
 pub enum ColorRead {
     Got(LedColor),
     Refused(Refusal),
 }
 
-#[derive(Drop)]
+#[derive(Clone, Copy)]
 pub enum LedCommand {
     SetDefault,
     OverrideColor(LedColor),
@@ -47,21 +47,21 @@ pub enum LedCommand {
     },
 }
 
-#[derive(Drop)]
+#[derive(Clone, Copy)]
 pub enum LedRead {
     Got(LedCommand),
     Refused(Refusal),
 }
 
 // What a pulse and a blink hold.
-#[derive(Drop)]
+#[derive(Clone, Copy)]
 pub(crate) struct Fade {
     pub(crate) time: u16,
     pub(crate) start: LedColor,
     pub(crate) stop: LedColor,
 }
 
-#[derive(Drop)]
+#[derive(Clone, Copy)]
 pub(crate) enum FadeRead {
     Got(Fade),
     Refused(Refusal),

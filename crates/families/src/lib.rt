@@ -1,4 +1,6 @@
 // The command families, a module each; texts, popups, and the enum over the families.
+#![tactic(auto)]
+
 pub mod ack;
 pub mod crossfire;
 pub mod fc;

@@ -13,12 +13,12 @@ use codec::writer::{WITH_BYTE_LEN, Written, write_with_byte};
 pub const SUB_COMMAND_ID_OSD_SEND_BUTTONS: u8 = 0x01;
 
 // The Rust's one case, SendButtons(buttons).
-#[derive(Drop)]
+#[derive(Clone, Copy)]
 pub struct OsdCommand {
     pub buttons: u8,
 }
 
-#[derive(Drop)]
+#[derive(Clone, Copy)]
 pub enum OsdRead {
     Got(OsdCommand),
     Refused(Refusal),

@@ -34,7 +34,7 @@ pub const COMMAND_ID_SCREEN: u8 = 0x22;
 
 pub const COMMAND_ID_ACK: u8 = 0xFF;
 
-#[derive(Drop)]
+#[derive(Clone, Copy)]
 pub enum CommandPayload {
     Fc(FcCommand),
     Osd(OsdCommand),

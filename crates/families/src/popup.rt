@@ -8,13 +8,13 @@ use codec::reader::{FlagRead, NumberRead, Reader, TextRead};
 use codec::refusal::Refusal;
 
 // A text's bytes: their place and their number.
-#[derive(Drop)]
+#[derive(Clone, Copy)]
 pub(crate) struct Span {
     pub(crate) at: usize,
     pub(crate) len: usize,
 }
 
-#[derive(Drop)]
+#[derive(Clone, Copy)]
 pub(crate) struct Head {
     pub(crate) header: Span,
     pub(crate) info: Span,
@@ -23,14 +23,14 @@ pub(crate) struct Head {
     pub(crate) next: usize,
 }
 
-#[derive(Drop)]
+#[derive(Clone, Copy)]
 pub(crate) enum HeadRead {
     Got(Head),
     Refused(Refusal),
 }
 
 // A selection's value, min, max and default.
-#[derive(Drop)]
+#[derive(Clone, Copy)]
 pub(crate) struct Four {
     pub(crate) value: u8,
     pub(crate) min_value: u8,
@@ -39,21 +39,21 @@ pub(crate) struct Four {
 }
 
 // A selection's numbers, and how many bytes its label and its unit have.
-#[derive(Drop)]
+#[derive(Clone, Copy)]
 pub(crate) struct Selected {
     pub(crate) label: usize,
     pub(crate) four: Four,
     pub(crate) unit: usize,
 }
 
-#[derive(Drop)]
+#[derive(Clone, Copy)]
 pub(crate) enum SelectedRead {
     Got(Selected),
     Refused(Refusal),
 }
 
 // Additional data: without a selection its texts and numbers are blank.
-#[derive(Drop)]
+#[derive(Clone, Copy)]
 pub(crate) struct More {
     pub(crate) kind: ScreenAdditionalData,
     pub(crate) label: Span,
@@ -62,40 +62,40 @@ pub(crate) struct More {
     pub(crate) next: usize,
 }
 
-#[derive(Drop)]
+#[derive(Clone, Copy)]
 pub(crate) enum MoreRead {
     Got(More),
     Refused(Refusal),
 }
 
-#[derive(Drop)]
+#[derive(Clone, Copy)]
 pub(crate) struct Values {
     pub(crate) present: bool,
     pub(crate) text: Span,
     pub(crate) next: usize,
 }
 
-#[derive(Drop)]
+#[derive(Clone, Copy)]
 pub(crate) enum ValuesRead {
     Got(Values),
     Refused(Refusal),
 }
 
-#[derive(Drop)]
+#[derive(Clone, Copy)]
 pub(crate) struct Places {
     pub(crate) head: Head,
     pub(crate) more: More,
     pub(crate) values: Values,
 }
 
-#[derive(Drop)]
+#[derive(Clone, Copy)]
 pub(crate) enum PopupRead {
     Got(Places),
     Refused(Refusal),
 }
 
 // A text that was taken: its bytes, and these with its 00.
-#[derive(Drop)]
+#[derive(Clone, Copy)]
 struct Taken {
     len: usize,
     next: usize,

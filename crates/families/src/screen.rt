@@ -27,14 +27,14 @@ pub const SUB_COMMAND_ID_SCREEN_SELECTION_RETURN_VALUE: u8 = 0x02;
 pub const MAX_POPUP_DATA_LEN: usize = 55;
 
 // The Rust's Option<ScreenAdditionalData>; the selection's texts and numbers stand beside it in the fields.
-#[derive(Drop)]
+#[derive(Clone, Copy)]
 pub enum ScreenAdditionalData {
     Absent,
     Empty,
     Selection,
 }
 
-#[derive(Drop)]
+#[derive(Clone, Copy)]
 pub struct ScreenPopupFields {
     pub header: CommandString,
     pub info: CommandString,
@@ -51,32 +51,32 @@ pub struct ScreenPopupFields {
     pub possible_values: CommandString,
 }
 
-#[derive(Drop)]
+#[derive(Clone, Copy)]
 pub struct FieldsAnswer {
     pub outcome: Outcome,
     pub fields: ScreenPopupFields,
 }
 
-#[derive(Drop)]
+#[derive(Clone, Copy)]
 pub struct ScreenPopup {
     pub len: usize,
     pub bytes: [u8; MAX_POPUP_DATA_LEN],
 }
 
-#[derive(Drop)]
+#[derive(Clone, Copy)]
 pub struct PopupAnswer {
     pub outcome: Outcome,
     pub popup: ScreenPopup,
 }
 
 // A popup's bytes stand beside the command.
-#[derive(Drop)]
+#[derive(Clone, Copy)]
 pub enum ScreenCommand {
     PopupMessageStart,
     SelectionReturnValue { value: u8, response: bool },
 }
 
-#[derive(Drop)]
+#[derive(Clone, Copy)]
 pub struct ScreenAnswer {
     pub outcome: Outcome,
     pub command: ScreenCommand,

@@ -9,13 +9,13 @@ use crate::screen::MAX_POPUP_DATA_LEN;
 use codec::reader::MAX_COMMAND_STRING_LEN;
 use codec::refusal::{Outcome, Refusal};
 
-#[derive(Drop)]
+#[derive(Clone, Copy)]
 pub struct CommandString {
     pub len: usize,
     pub bytes: [u8; MAX_COMMAND_STRING_LEN],
 }
 
-#[derive(Drop)]
+#[derive(Clone, Copy)]
 pub struct TextAnswer {
     pub outcome: Outcome,
     pub text: CommandString,
@@ -77,7 +77,7 @@ pub(crate) fn stored(s: &[u8], at: usize, n: usize) -> [u8; MAX_POPUP_DATA_LEN]
 {
     let mut out = [0u8; MAX_POPUP_DATA_LEN];
     let end = at + n;
-    bytes::copy(&s[at..end], &mut out);
+    out[..n].copy_from_slice(&s[at..end]);
     out
 }
 
@@ -88,7 +88,7 @@ pub(crate) fn text_at(s: &[u8], at: usize, n: usize) -> CommandString
 {
     let mut out = [0u8; MAX_COMMAND_STRING_LEN];
     let end = at + n;
-    bytes::copy(&s[at..end], &mut out);
+    out[..n].copy_from_slice(&s[at..end]);
     CommandString { len: n, bytes: out }
 }
 

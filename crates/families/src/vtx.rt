@@ -25,7 +25,7 @@ pub const SUB_COMMAND_ID_VTX_SET_DYNAMIC_POWER: u8 = 0x06;
 
 pub const SUB_COMMAND_ID_VTX_SET_POWER: u8 = 0x08;
 
-#[derive(Drop)]
+#[derive(Clone, Copy)]
 pub enum VtxCommand {
     SetFrequency(u16),
     EnablePitModeOnPowerUp {
@@ -38,7 +38,7 @@ pub enum VtxCommand {
     SetPower(u8),
 }
 
-#[derive(Drop)]
+#[derive(Clone, Copy)]
 pub enum VtxRead {
     Got(VtxCommand),
     Refused(Refusal),

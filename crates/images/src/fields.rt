@@ -156,7 +156,7 @@ fn text_at(image: &[u8], at: usize) -> CommandString
     let mut stored = [0u8; MAX_COMMAND_STRING_LEN];
     let start = at + TEXT_BYTES;
     let end = at + TEXT_SIZE;
-    bytes::copy(&image[start..end], &mut stored);
+    stored.copy_from_slice(&image[start..end]);
     CommandString {
         len: image[at] as usize,
         bytes: stored,

@@ -1,4 +1,6 @@
 // What crosses the C boundary (include/crsf.h): images, the records that they are images of, and the answer word.
+#![tactic(auto)]
+
 pub mod ack;
 pub mod fields;
 pub mod number;

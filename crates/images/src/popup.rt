@@ -28,7 +28,7 @@ pub fn from(image: &[u8]) -> PopupAnswer
             },
         };
     }
-    bytes::copy(&image[POPUP_BYTES..], &mut stored);
+    stored.copy_from_slice(&image[POPUP_BYTES..]);
     PopupAnswer {
         outcome: Outcome::Accepted,
         popup: ScreenPopup {

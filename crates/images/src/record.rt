@@ -95,7 +95,7 @@ pub fn from(image: &[u8]) -> CommandAnswer
     let payload = crate::values::payload_at(image);
     if is_laid(payload, image) {
         let mut stored = [0u8; STORED];
-        bytes::copy(&image[RECORD_BYTES..], &mut stored);
+        stored.copy_from_slice(&image[RECORD_BYTES..]);
         return CommandAnswer {
             outcome: Outcome::Accepted,
             command: DirectCommands {

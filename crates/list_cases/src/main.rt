@@ -1,5 +1,7 @@
 // Cases of the listing. Standard input: for each case the length of a listing's input, two bytes, big-endian, and that input. The lines of
 // each are written as it gives them when fed whole; where it gives others in chunks of 1, 2, 3 or 7 bytes, `differs` follows.
+#![tactic(auto)]
+
 ghost use Rattle.std.specs.Prelude.{◌≤◌, length};
 
 use codec::writer::Written;
@@ -10,7 +12,7 @@ use listing::{Listed, Listing};
 // More than the two length bytes of a case can say.
 const WHOLE: usize = 65536;
 
-#[derive(Drop)]
+#[derive(Clone, Copy)]
 enum Case {
     Bytes(usize),
     Cut,
@@ -18,7 +20,7 @@ enum Case {
 }
 
 // The state after a chunk, and how many bytes of text there are.
-#[derive(Drop)]
+#[derive(Clone, Copy)]
 struct Progress {
     state: Listing,
     len: usize,

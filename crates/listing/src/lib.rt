@@ -1,4 +1,6 @@
 // Document 01, "The listing", as a step over a chunk of the input. Nothing here reads or writes.
+#![tactic(auto)]
+
 ghost use Rattle.std.specs.Prelude.{◌≡◌, ◌+◌, ◌≤◌, ◌<◌, length};
 ghost use Rattle.commands.specs.Reading.{read_command};
 ghost use Rattle.listing.specs.Listing.{line_of};
@@ -19,7 +21,7 @@ const LONGEST_RECORD: usize = 255;
 
 // Between two chunks: the records so far; of the one that is cut, its length, how many payload bytes have come, and they, where
 // they matter. Between records both numbers are 0.
-#[derive(Drop)]
+#[derive(Clone, Copy)]
 pub struct Listing {
     pub count: u64,
     pub wanted: usize,
@@ -28,7 +30,7 @@ pub struct Listing {
 }
 
 // What a step or the end gives: a line; none, as the chunk is used up; or a number, for a state beyond its limits.
-#[derive(Drop)]
+#[derive(Clone, Copy)]
 pub enum Listed {
     Line(Line),
     Nothing,
@@ -36,7 +38,7 @@ pub enum Listed {
 }
 
 // The state after a step, the place in the chunk where the next goes on, and what was found.
-#[derive(Drop)]
+#[derive(Clone, Copy)]
 pub struct Step {
     pub state: Listing,
     pub at: usize,
@@ -44,7 +46,7 @@ pub struct Step {
 }
 
 // Why a part ends: the chunk is used up; the next line has no room; or a number, for a state beyond its limits.
-#[derive(Drop)]
+#[derive(Clone, Copy)]
 pub enum Stop {
     Used,
     Full,
@@ -52,7 +54,7 @@ pub enum Stop {
 }
 
 // The state after a part's lines, the place in the chunk where the next part goes on, and how many bytes of text there are.
-#[derive(Drop)]
+#[derive(Clone, Copy)]
 pub struct Part {
     pub state: Listing,
     pub at: usize,

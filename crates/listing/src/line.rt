@@ -9,7 +9,7 @@ use codec::writer::Written;
 use text::{put_behind, put_decimal, put_hex, put_numbered, put_word};
 
 // The records' numbers count from 0; the last number of a read line is the written length.
-#[derive(Drop)]
+#[derive(Clone, Copy)]
 pub enum Line {
     Read(u64, u8, usize),
     Refused(u64, u8),

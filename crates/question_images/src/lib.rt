@@ -1,5 +1,7 @@
 // What crosses the C boundary of a question (include/crsf.h): what is kept of it, as an image. It stands here and not in images, so that
 // images need not wait for the questions.
+#![tactic(auto)]
+
 ghost use Rattle.std.specs.Prelude.{◌≡◌};
 ghost use Rattle.codec.specs.Sheet.{refused};
 ghost use Rattle.codec.specs.Writing.{put_at};
@@ -22,7 +24,7 @@ const QUESTION_POPUP: usize = 10;
 
 pub const QUESTION_SIZE: usize = 66;
 
-#[derive(Drop)]
+#[derive(Clone, Copy)]
 pub struct QuestionAnswer {
     pub outcome: Outcome,
     pub question: Question,

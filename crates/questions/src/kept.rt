@@ -9,7 +9,7 @@ use families::screen::{ScreenAdditionalData, ScreenPopup};
 
 // What a question goes by: how long it may be answered, and which values a processed return may have. `sound` off: there is no such
 // question.
-#[derive(Drop)]
+#[derive(Clone, Copy)]
 pub(crate) struct Terms {
     pub(crate) sound: bool,
     pub(crate) timeout: u8,

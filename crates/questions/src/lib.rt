@@ -1,4 +1,6 @@
 // Document 02, Wish 13: popup questions and their answers. Nothing here has a clock: the caller counts the seconds.
+#![tactic(auto)]
+
 ghost use Rattle.std.specs.Prelude.{◌≡◌};
 ghost use Rattle.questions.specs.Table.{neither};
 ghost use Rattle.questions.specs.declared.Reply.TheVariants.{Refused};
@@ -15,7 +17,7 @@ mod returning;
 
 // Between two calls: whether one was accepted, whether a question is open, the second when its popup was sent, the last accepted second,
 // and the popup.
-#[derive(Drop)]
+#[derive(Clone, Copy)]
 pub struct Question {
     pub started: bool,
     pub open: bool,
@@ -25,7 +27,7 @@ pub struct Question {
 }
 
 // Why a call is refused.
-#[derive(Drop)]
+#[derive(Clone, Copy)]
 pub enum Reason {
     RecordNotMade,
     InvalidPayload,
@@ -36,7 +38,7 @@ pub enum Reason {
 }
 
 // A question opened, or how it closed.
-#[derive(Drop)]
+#[derive(Clone, Copy)]
 pub enum Reply {
     Opened,
     Processed,
@@ -45,7 +47,7 @@ pub enum Reply {
     Refused(Reason),
 }
 
-#[derive(Drop)]
+#[derive(Clone, Copy)]
 pub struct Step {
     pub reply: Reply,
     pub question: Question,

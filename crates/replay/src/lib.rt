@@ -1,4 +1,6 @@
 // Document 02, Wish 1: the box's log, block by block. Nothing here reads or writes.
+#![tactic(auto)]
+
 ghost use Rattle.std.specs.Prelude.{true, ◌≡◌, []};
 ghost use Rattle.commands.specs.Reading.{read_command};
 ghost use Rattle.blocks.specs.Block.{block_number, records_of};
@@ -13,14 +15,14 @@ use commands::DirectCommands;
 
 // Between two events: whether a sound block has come, the number of the last one, and the place of the next record's length byte,
 // 0 where a new block is to come.
-#[derive(Drop)]
+#[derive(Clone, Copy)]
 pub struct Replay {
     pub started: bool,
     pub number: u32,
     pub place: usize,
 }
 
-#[derive(Drop)]
+#[derive(Clone, Copy)]
 pub enum Kind {
     Nothing,
     Command,
@@ -31,7 +33,7 @@ pub enum Kind {
 }
 
 // An event has its block's number, a damaged block's the caller's position. What it does not have is 0, or the blank command.
-#[derive(Drop)]
+#[derive(Clone, Copy)]
 pub struct Event {
     pub kind: Kind,
     pub block: u32,
@@ -41,7 +43,7 @@ pub struct Event {
     pub command: DirectCommands,
 }
 
-#[derive(Drop)]
+#[derive(Clone, Copy)]
 pub struct Step {
     pub outcome: Outcome,
     pub state: Replay,

@@ -1,5 +1,7 @@
 // Cases of the replay. Standard input: for each case the length of a log, two bytes, big-endian, and that log. The lines of each are written,
 // and `end` with the number of its blocks.
+#![tactic(auto)]
+
 ghost use Rattle.std.specs.Prelude.{◌≤◌, length};
 
 use codec::writer::Written;
@@ -11,7 +13,7 @@ const BLOCK_SIZE: usize = 512;
 // More blocks than the two length bytes of a case can say.
 const MOST_BLOCKS: u32 = 200;
 
-#[derive(Drop)]
+#[derive(Clone, Copy)]
 enum Case {
     Bytes(usize),
     Cut,

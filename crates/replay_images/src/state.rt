@@ -16,7 +16,7 @@ const REPLAY_PLACE: usize = 5;
 
 pub const REPLAY_SIZE: usize = 7;
 
-#[derive(Drop)]
+#[derive(Clone, Copy)]
 pub enum StateRead {
     Got(Replay),
     Refused(Refusal),

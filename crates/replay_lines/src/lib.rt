@@ -1,4 +1,6 @@
 // The replay of a log as text: the lines of a block's events, and the line that closes it. Nothing here reads or writes.
+#![tactic(auto)]
+
 ghost use Rattle.std.specs.Prelude.{◌≡◌, ◌≤◌, length};
 ghost use Rattle.codec.specs.Refusals.{outcome_number, number_in};
 ghost use Rattle.codec.specs.Told.{WritesAll};
@@ -21,7 +23,7 @@ const MOST_LINES: usize = 102;
 const MOST_TEXT: usize = LONGEST * MOST_LINES;
 
 // The state after the lines, and how many bytes of text there are.
-#[derive(Drop)]
+#[derive(Clone, Copy)]
 pub struct Lines {
     pub outcome: Outcome,
     pub state: Replay,

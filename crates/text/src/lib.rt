@@ -1,5 +1,7 @@
 // The pieces of a line's text, in ASCII. A text is made from its end to its start: each piece is put in front of what stands from a place
 // on, and the answer is where it starts. Nothing here reads or writes.
+#![tactic(auto)]
+
 ghost use Rattle.std.specs.Prelude.{◌≡◌, ◌++◌, ◌+◌, ◌≤◌, ◌<◌, length, drop};
 ghost use Rattle.text.specs.Pieces.{hex_digit, hex_of, most_digits, decimal, numbered_text};
 ghost use Rattle.text.specs.Putting.{PutsBefore, PutsBehind};

@@ -57,7 +57,7 @@ fn calls_agree(space: &mut [u8], question: &[u8], calls: &[u8], stored: &[u8]) -
     if 1000 < n || 1000 < calls.len() || 1000 < stored.len() {
         return false;
     }
-    bytes::copy(question, space);
+    space[..n].copy_from_slice(question);
     let mut from: usize = 0;
     let mut told: usize = 0;
     while from < calls.len() {

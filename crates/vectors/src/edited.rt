@@ -8,7 +8,7 @@ fn edit_in(space: &mut [u8], payload: &[u8], field: u32, number: u32) -> u32 {
     if space.len() < n {
         return 255; // no stored answer
     }
-    bytes::copy(payload, space);
+    space[..n].copy_from_slice(payload);
     crsf::edit::crsf_edit(&mut space[..n], field, number)
 }
 
@@ -35,7 +35,7 @@ fn edit_all_in(
     if space.len() < n || answers.len() < room {
         return 255; // no stored answer
     }
-    bytes::copy(payload, space);
+    space[..n].copy_from_slice(payload);
     crsf::edit::crsf_edit_list(&mut space[..n], edits, &mut answers[..room])
 }
 

@@ -1,4 +1,6 @@
 // Replays the stored answers of the Rust from standard input. README.md in this crate's folder says what a record is.
+#![tactic(auto)]
+
 ghost use Rattle.std.specs.Prelude.{◌<◌};
 
 use commands::DirectCommands;
@@ -8,13 +10,13 @@ mod boundary;
 mod edited;
 mod plain;
 
-#[derive(Drop)]
+#[derive(Clone, Copy)]
 enum Part {
     Bytes(usize),
     Cut,
 }
 
-#[derive(Drop)]
+#[derive(Clone, Copy)]
 enum Record {
     Agrees(u8),
     Differs,
@@ -23,7 +25,7 @@ enum Record {
 }
 
 // Of each kind, by its number; what is no kind counts as 0.
-#[derive(Drop)]
+#[derive(Clone, Copy)]
 struct Tally {
     kinds: [u64; 12],
     differ: u64,
