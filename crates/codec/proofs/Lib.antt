@@ -22,7 +22,5 @@ pub mod Outcomes
 pub mod Bounds
 pub mod ReadJoin
 pub mod There
-pub mod Method
-pub mod Lent
-pub mod Straight
+pub mod Says
 pub mod RuledOut

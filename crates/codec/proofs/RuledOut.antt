@@ -12,7 +12,7 @@ use prog.Routine.{Routine}
 use types.Logic.{Logic}
 use contract.Lifetimes.{Lfts}
 use contract.Monad.{Fun, fact, fact_mono}
-use denote.Ref.{Bor}
+use denote.Ref.{Bor, MutBor}
 use denote.Triple.Clauses.{AtExit}
 use lib.ListN.{length, drop}
 use Rattle.codec.specs.Pick.{pick}
@@ -114,8 +114,8 @@ module _ {M : Type 1} {𝓤 : Ura M} (𝓛 : Logic 𝓤) (mem : Memory → SProp
       → ent 𝓤 ((new.clauses 𝓛 mem run κs (lent 0 (1 ∷ 2 ∷ []), tt)).ensures tt (reader 1 (1 ∷ 2 ∷ [])) e) (fact 𝓤 ⊥)
   new_copies_none κs e = fact_mono 𝓤 _ ⊥ (λ p. let n = ap (λ (r : Bor (List ℕ)). r.ref_ptr.0) p in omega arith)
 
-  abbrev held : List ℕ → Bor Reader
-  held s = record { ref_ptr = (9, 0); now = reader 0 s }
+  abbrev held : List ℕ → MutBor Reader
+  held s = record { ref_ptr = (9, 0); ghost_name = 0; now = reader 0 s }
 
   -- the byte behind is not passed over: it is still to come
   pub byte_takes_one : (κs : Lfts 2) (x : NumberRead) (e : AtExit next-byte.ended κs)

@@ -15,7 +15,7 @@ use Rattle.codec.specs.declared.reader.FlagRead.{FlagRead}
 use Rattle.codec.specs.declared.reader.FlagRead.TheVariants.{Got as GotFlag, Refused as RefusedFlag}
 use Rattle.codec.specs.declared.reader.TextRead.{TextRead}
 use Rattle.codec.specs.declared.reader.TextRead.TheVariants.{Got as GotText, Refused as RefusedText}
-use Rattle.codec.proofs.Method.{number-says, flag-says, text_says}
+use Rattle.codec.proofs.Says.{number_says, flag_says, text_says}
 use Rattle.codec.proofs.InRow.{none, next, taken_reads, read_behind_lem}
 use Rattle.codec.proofs.Bounds.{label_text}
 use Rattle.codec.specs.Refusals.{refusal_number}
@@ -51,12 +51,12 @@ text_at_lem s t p n next a =
     text-got s p n (p + next) (GotText n (p + next)) refl (a.0.0, (omega (arith, l, a.1.0), omega (arith, a.1.1)))
 
 pub head_taken : (s s1 s2 s3 s4 : List ℕ) (h i : TextRead) (t : NumberRead) (c : FlagRead) → text_says s h s1
-    → text_says s1 i s2 → number-says byte 255 s2 t s3 → flag-says s3 c s4
+    → text_says s1 i s2 → number_says byte 255 s2 t s3 → flag_says s3 c s4
     → (told_head s (head_by h i t c) ≡ read_items head_items s 0) × head_in s 0 (head_by h i t c)
 head_taken s s1 s2 s3 s4 (GotText n p) (GotText m q) (GotNumber k) (GotFlag b) a d e f =
     let d' = subst (λ (l : List ℕ). text_says l (GotText m q) s2) (front_text s s1 n p a) d in
-    let e' = subst (λ (l : List ℕ). number-says byte 255 l (GotNumber k) s3) (front_text (drop p s) s2 m q d' ∙ drop-drop q p s) e in
-    let f' = subst (λ (l : List ℕ). flag-says l (GotFlag b) s4) (e'.0.1 ∙ drop-drop 1 (p + q) s) f in
+    let e' = subst (λ (l : List ℕ). number_says byte 255 l (GotNumber k) s3) (front_text (drop p s) s2 m q d' ∙ drop-drop q p s) e in
+    let f' = subst (λ (l : List ℕ). flag_says l (GotFlag b) s4) (e'.0.1 ∙ drop-drop 1 (p + q) s) f in
     head-got s 0 n p m (p + q) k b (text-got s 0 n p (GotText n p) refl (a.0.0, a.1)) (text_at_lem s s2 p m q d')
     (byte-got s (p + q) k (GotNumber k) refl (e'.0.0, e'.1)) (flag-got s (p + q + 1) b (GotFlag b) refl f'.0)
 head_taken s s1 s2 s3 s4 (GotText n p) (GotText m q) (GotNumber k) (RefusedFlag r) a d e f =
@@ -84,8 +84,8 @@ unit-there s t n p m q s1 a u =
     (omega (arith, l, y.1.1.1.0), (x.1.1.1.1, y.1.1.1.1))
 
 pub selection_taken : (s s1 s2 s3 s4 s5 s6 : List ℕ) (l : TextRead) (a b c d : NumberRead) (u : TextRead)
-    → text_says s l s1 → number-says byte 255 s1 a s2 → number-says byte 255 s2 b s3 → number-says byte 255 s3 c s4
-    → number-says byte 255 s4 d s5 → text_says s5 u s6
+    → text_says s l s1 → number_says byte 255 s1 a s2 → number_says byte 255 s2 b s3 → number_says byte 255 s3 c s4
+    → number_says byte 255 s4 d s5 → text_says s5 u s6
     → (told_selected s (selected_by l a b c d u) ≡ read_items (text_item ∷ selection_items) s 0) × selected_in s (selected_by l a b c d u)
 selection_taken s s1 s2 s3 s4 s5 s6 (GotText n p) (GotNumber a) (GotNumber b) (GotNumber c) (GotNumber d) (GotText m q) t e f g h u =
     let w = unit-behind s s1 s2 s3 s4 s5 n p t e.0.1 f.0.1 g.0.1 h.0.1 in (
