@@ -9,7 +9,7 @@ use Rattle.families.proofs.ack.written_len.Goals as goal
 pub returns : goal.returns
 returns c =
     let given = c.args in
-    let stored = c.stored_len.ensures in (
-      ap (λ (n : ℕ). n + 4) stored.0 ∙ sym (ack_size given.ack (take given.len given.bytes.now)),
-      omega (arith, stored.1),
-    )
+    let stored = c.stored_len.ensures in record {
+      value = ap (λ (n : ℕ). n + 4) stored.value ∙ sym (ack_size given.ack (take given.len given.bytes.now));
+      upper_bound = omega (arith, stored.upper_bound);
+    }

@@ -3,43 +3,31 @@ use mathlib.Core.Path.{sym, ◌∙◌}
 use native.Mathlib.Omega.{arith}
 use Rattle.families.specs.Sizes.{Sized, Ranged}
 use Rattle.families.proofs.Judged.{head-short, selection-short, values-short, stop-sizes, judged-made}
-use borrow.Author.Tests.{not-true, not-false}
-use contract.Lifetimes.{Lfts}
-use borrow.Fn.Kinds.{Dens, Plain}
 use borrow.Author.Rules.{rules}
-use Rattle.families.proofs.fields.judge.Lts as lts
 use Rattle.families.proofs.fields.judge.Goals as goal
 
--- what the types of the fields keep
-fit : {k : lts.Claims} {P : (κs : Lfts 0) → Dens κs lts.ps → Type 0}
-    {Q : (κs : Lfts 0) → Dens κs lts.ps → Plain 0 lts.ps lts.r κs} (start : lts.Start k P Q)
-    → Sized start.args.fields × Ranged start.args.fields
-fit start = (
-  (search rules, (search rules, (search rules, (search rules, search rules)))),
-  (search rules, (search rules, (search rules, (search rules, search rules)))),
-)
-
 pub returns-then-not-texts_made : goal.returns-then-not-texts_made
-returns-then-not-texts_made c = rw (← c.texts_made.ensures, not-true c.texts_made.result c.if-not-texts_made.true)
+returns-then-not-texts_made c = rw (← c.texts_made.ensures, c.if-not-texts_made.true)
 
 pub overflow_add-fields : goal.overflow_add-fields
 overflow_add-fields c = let h = head-short c.args.fields
-    (sym c.texts_made.ensures ∙ not-false c.texts_made.result
-    c.if-not-texts_made.false) in omega (arith, h.0, h.1)
+    (sym c.texts_made.ensures ∙ c.if-not-texts_made.false) in omega (arith, h.0, h.1)
 
 pub overflow_add-fields-2 : goal.overflow_add-fields-2
 overflow_add-fields-2 c = let h = head-short c.args.fields
-    (sym c.texts_made.ensures ∙ not-false c.texts_made.result
-    c.if-not-texts_made.false) in omega (arith, h.0, h.1)
+    (sym c.texts_made.ensures ∙ c.if-not-texts_made.false) in omega (arith, h.0, h.1)
 
 pub judge_sizes-requires : goal.judge_sizes-requires
 judge_sizes-requires c = let f = c.args.fields in let m =
-    sym c.texts_made.ensures ∙ not-false c.texts_made.result
-    c.if-not-texts_made.false in let h = head-short f m in
+    sym c.texts_made.ensures ∙ c.if-not-texts_made.false in let h = head-short f m in
     (omega (arith, h.0, h.1), (selection-short f m, values-short f m))
 
 pub returns : goal.returns
 returns c =
+    let fit : Sized c.args.fields × Ranged c.args.fields = (
+      (search rules, (search rules, (search rules, (search rules, search rules)))),
+      (search rules, (search rules, (search rules, (search rules, search rules)))),
+    ) in
     let f = c.args.fields in let m = sym c.texts_made.ensures
-    ∙ not-false c.texts_made.result c.if-not-texts_made.false in
-    c.judge_sizes.ensures ∙ stop-sizes f (fit c).0 (fit c).1 m ∙ judged-made f m
+    ∙ c.if-not-texts_made.false in
+    c.judge_sizes.ensures ∙ stop-sizes f fit.0 fit.1 m ∙ judged-made f m

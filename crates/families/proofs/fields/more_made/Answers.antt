@@ -1,12 +1,11 @@
 -- The texts of a selection are made. Assumes nothing.
-use borrow.Author.Tests.{not-true, not-false}
 use Rattle.families.proofs.fields.more_made.Goals as goal
 
 pub returns-then-not-made : goal.returns-then-not-made
 returns-then-not-made c = rw (
   c.in-Selection.is,
   ← c.made.ensures,
-  not-true c.made.result c.if-not-made.true,
+  c.if-not-made.true,
 )
 
 pub returns-in-Absent : goal.returns-in-Absent
@@ -20,6 +19,5 @@ returns-else-not-made c =
     rw (
       c.in-Selection.is,
       ← c.made.ensures,
-      not-false c.made.result
-          c.if-not-made.false,
+      c.if-not-made.false,
     ) c.made-in-Selection.ensures

@@ -1,37 +1,36 @@
 -- Every text that is present is made. Assumes nothing.
-use borrow.Author.Tests.{not-true, not-false}
 use Rattle.families.proofs.fields.texts_made.Goals as goal
 
 pub returns-then-not-made : goal.returns-then-not-made
-returns-then-not-made c = rw (← c.made.ensures, not-true c.made.result c.if-not-made.true)
+returns-then-not-made c = rw (← c.made.ensures, c.if-not-made.true)
 
 pub returns-then-not-made-2 : goal.returns-then-not-made-2
 returns-then-not-made-2 c =
     rw (
       ← c.made.ensures,
-      not-false c.made.result c.if-not-made.false,
+      c.if-not-made.false,
       ← c.made-2.ensures,
-      not-true c.made-2.result c.if-not-made-2.true,
+      c.if-not-made-2.true,
     )
 
 pub returns-then-not-more_made : goal.returns-then-not-more_made
 returns-then-not-more_made c =
     rw (
       ← c.made.ensures,
-      not-false c.made.result c.if-not-made.false,
+      c.if-not-made.false,
       ← c.made-2.ensures,
-      not-false c.made-2.result c.if-not-made-2.false,
+      c.if-not-made-2.false,
       ← c.more_made.ensures,
-      not-true c.more_made.result c.if-not-more_made.true,
+      c.if-not-more_made.true,
     )
 
 pub returns : goal.returns
 returns c =
     rw (
       ← c.made.ensures,
-      not-false c.made.result c.if-not-made.false,
+      c.if-not-made.false,
       ← c.made-2.ensures,
-      not-false c.made-2.result c.if-not-made-2.false,
+      c.if-not-made-2.false,
       ← c.more_made.ensures,
-      not-false c.more_made.result c.if-not-more_made.false,
+      c.if-not-more_made.false,
     ) c.values_made.ensures

@@ -15,9 +15,9 @@ slice_bounds-whole_fields-end c = sym (length-take-le _ _ (omega arith))
 
 pub returns-then-zero_after : goal.returns-then-zero_after
 returns-then-zero_after c =
-    fields-of _ _ c.Whole-Fields.result
+    fields-of _ _ c.whole_fields.result
     (inspect-whole c.args.n c.args.s.now c.if-n-gt-MAX_POPUP_DATA_LEN.false c.requires
-    (sym c.zero_after.ensures ∙ c.if-zero_after.true)) c.Whole-Fields.ensures
+    (sym c.zero_after.ensures ∙ c.if-zero_after.true)) c.whole_fields.ensures
 
 pub returns : goal.returns
 returns c =

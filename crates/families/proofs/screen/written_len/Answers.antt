@@ -5,4 +5,4 @@ use Rattle.families.proofs.screen.written_len.Goals as goal
 pub returns-in-PopupMessageStart : goal.returns-in-PopupMessageStart
 returns-in-PopupMessageStart c =
     let stored = c.stored_len.ensures in
-    (rw c.in-PopupMessageStart.is (omega (arith, stored.0)), omega (arith, stored.1))
+    record { value = rw c.in-PopupMessageStart.is (omega (arith, stored.value)); upper_bound = omega (arith, stored.upper_bound) }

@@ -8,9 +8,9 @@ use Rattle.families.proofs.text.stored_len.Goals as goal
 pub returns-then-bytes-len : goal.returns-then-bytes-len
 returns-then-bytes-len c =
     let given = c.args in
-    (sym (ap length (take_all given.len given.bytes.now (omega arith))), omega arith)
+    record { value = sym (ap length (take_all given.len given.bytes.now (omega arith))); upper_bound = omega arith }
 
 pub returns-else-bytes-len : goal.returns-else-bytes-len
 returns-else-bytes-len c =
     let given = c.args in
-    (sym (length-take-le given.len given.bytes.now (omega arith)), omega arith)
+    record { value = sym (length-take-le given.len given.bytes.now (omega arith)); upper_bound = omega arith }
