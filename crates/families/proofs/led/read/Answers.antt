@@ -7,4 +7,4 @@ use Rattle.families.proofs.led.read.Goals as goal
 
 pub returns : goal.returns
 returns c = rw c.new-input.ensures at
-  (c.read_behind.ensures ∙ body_taken led_rows (told_number c.byte-sub.result) _ _ c.byte-sub.ensures.0)
+    (c.read_behind.ensures ∙ body_taken led_rows (told_number c.byte-sub.result) _ _ c.byte-sub.ensures.0)

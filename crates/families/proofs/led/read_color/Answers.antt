@@ -9,5 +9,5 @@ use Rattle.families.proofs.led.read_color.Goals as goal
 
 pub returns : goal.returns
 returns c = rw c.new-input.ensures at
-  (c.color.ensures ∙ ap (λ (x : Answer (List (List ℕ))). and_then x (λ vs. got (said 0x02 vs)))
+    (c.color.ensures ∙ ap (λ (x : Answer (List (List ℕ))). and_then x (λ vs. got (said 0x02 vs)))
     (taken_reads (colour-next c.u24-bytes.result c.u24-bytes.ensures.0 none)))

@@ -6,5 +6,5 @@ use Rattle.families.proofs.led.read_fade.Goals as goal
 
 pub returns : goal.returns
 returns c = rw c.new-input.ensures at
-  (c.fade_of.ensures ∙ taken_reads (next c.u16-time.ensures.0
+    (c.fade_of.ensures ∙ taken_reads (next c.u16-time.ensures.0
     (colour-next c.u24-start.result c.u24-start.ensures.0 (colour-next c.u24-stop.result c.u24-stop.ensures.0 none))))

@@ -9,5 +9,5 @@ use Rattle.families.proofs.led.read_shift.Goals as goal
 
 pub returns : goal.returns
 returns c = rw c.new-input.ensures at
-  (c.shift.ensures ∙ ap (λ (x : Answer (List (List ℕ))). and_then x (λ vs. got (said 0x05 vs)))
+    (c.shift.ensures ∙ ap (λ (x : Answer (List (List ℕ))). and_then x (λ vs. got (said 0x05 vs)))
     (taken_reads (next c.u16-interval.ensures.0 (colour-next c.u24-bytes.result c.u24-bytes.ensures.0 none))))
