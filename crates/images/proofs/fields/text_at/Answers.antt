@@ -4,4 +4,4 @@ use Rattle.images.proofs.fields.text_at.Goals as goal
 
 pub returns : goal.returns
 returns c =
-    text_copied c.args.image.now c.args.at _ c.requires c.copy.ensures.1
+    text_copied c.args.image.now c.args.at _ c.requires c.copy_from_slice.ensures.after

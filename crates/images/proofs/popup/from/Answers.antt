@@ -11,4 +11,4 @@ overflow_cast-result c = omega (arith, c.type_inv.image 0)
 
 pub returns : goal.returns
 returns c =
-    popup-got c.args.image.now _ c.if-image-ne-POPUP_SIZE.false c.copy.ensures.1
+    popup-got c.args.image.now _ c.if-image-ne-POPUP_SIZE.false c.copy_from_slice.ensures.after

@@ -17,7 +17,7 @@ returns-then-is_laid c =
     (from-laid c.args.image.now c.payload_at-payload.result true c.is_laid.result
     c.if-image-ne-RECORD_SIZE.false (omega (arith, c.type_inv.image 14))
     c.payload_at-payload.ensures c.is_laid.ensures c.if-is_laid.true)
-    c.copy.ensures.1
+    c.copy_from_slice.ensures.after
 
 pub returns : goal.returns
 returns c =
