@@ -56,10 +56,11 @@ drop-zeros (suc k) zero = rw zero-sub
 drop-zeros (suc k) (suc m) = rw suc-sub-suc (drop-zeros k m)
 
 -- a part that is copied over zeros
-pub copied : (s : List ℕ) (at n m : ℕ) → at + n ≤ length s →
-    take (length (take (at + n - at) (drop at s))) (take (at + n - at) (drop at s)) ++ drop
-    (length (take (at + n - at) (drop at s))) (replicate m 0) ≡ padded m (take n (drop at s))
-copied s at n m h = rw (add-sub_cancel_left at n, take-length, drop-zeros)
+pub copied : (s : List ℕ) (at n m : ℕ) (new : List ℕ) → at + n ≤ length s → new ≡ take (at + n - at) (drop at s)
+    → new ++ drop n (replicate m 0) ≡ padded m (take n (drop at s))
+copied s at n m new h e =
+    let k : n ≤ length (drop at s) = rw length-drop (omega arith) in
+    rw (e, add-sub_cancel_left at n, drop-zeros n m, length-take-le n (drop at s) k)
 
 -- the same as a text: its length is that of its bytes
 pub text_is : (s b : List ℕ) (at n : ℕ) → at + n ≤ length s → b ≡ padded 51 (take n (drop at s)) → record { len = n; bytes = b } ≡ text_of (take n (drop at s))
