@@ -104,16 +104,20 @@ fn say(rt: &HostRuntime, text: &[u8]) {
     let _ = rt.stderr().write_all(text);
 }
 
-// `NAME: ERROR`, in the words of the C library: std's, without the number behind them.
+// The C library's words of an error: std puts ` (os error NUMBER)` behind them.
+fn words_of(told: &str) -> &str {
+    match told.split_once(" (os error ") {
+        Some((words, _)) => words,
+        None => told,
+    }
+}
+
+// `NAME: ERROR`.
 fn fail(rt: &HostRuntime, name: &[u8], error: io::Error) {
     let told = InlineText::<ERROR_ROOM>::of(error);
-    let words = match told.as_str().split_once(" (os error ") {
-        Some((words, _)) => words,
-        None => told.as_str(),
-    };
     say(rt, name);
     say(rt, b": ");
-    say(rt, words.as_bytes());
+    say(rt, words_of(told.as_str()).as_bytes());
     say(rt, b"\n");
 }
 
