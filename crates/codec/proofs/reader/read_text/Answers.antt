@@ -15,8 +15,7 @@ returns-then-most-end c =
     (sym (too_long _ c.args.bytes.now _ _ c.end_of-end.ensures c.if-bytes-end.false c.if-most-end.true), tt)
 
 pub returns : goal.returns
-returns c =
-    (
-      text_is _ c.args.bytes.now _ _ c.end_of-end.ensures c.if-bytes-end.false c.if-most-end.false,
-      (omega arith, omega arith),
-    )
+returns c = (
+  text_is _ c.args.bytes.now _ _ c.end_of-end.ensures c.if-bytes-end.false c.if-most-end.false,
+  (omega arith, omega arith),
+)
