@@ -502,7 +502,7 @@ command_with c dst src us s d e o g y n =
     let long = length_is c s.in_range s.is_made s.stored s.size in
     let new = length_is x ok r.1.1 bs z in
     let short : length (payload_of x) ≤ 60 = omega (arith, long, new, same, s.short) in
-    let sound : Sound x = record { destination = d; source = e; in_range = ok; isMade = r.1.1; stored = bs; size = z; short = short } in
+    let sound : Sound x = record { destination = d; source = e; in_range = ok; is_made = r.1.1; stored = bs; size = z; short = short } in
     let f = r.1.0 in
     record {
       items = ap (λ (a : List Item). byte ∷ byte ∷ byte ∷ a) i;

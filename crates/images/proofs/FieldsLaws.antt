@@ -22,7 +22,7 @@ use Rattle.families.specs.declared.screen.ScreenAdditionalData.TheVariants.{Abse
 use Rattle.families.specs.declared.screen.ScreenPopupFields.{ScreenPopupFields}
 use Rattle.images.specs.Text.{text_image}
 use Rattle.images.specs.Fields.{kind_byte, fields_image, text_at, kind_at, known, known_at, fields_at, fields_from}
-use Rattle.images.proofs.TextLaws.{text-size, over_zeros, copied_whole, byte_mod}
+use Rattle.images.proofs.TextLaws.{text-size, byte_mod}
 use Rattle.images.proofs.FieldsPut.{head_bytes, fields-size}
 
 -- ---- flags and kinds
@@ -241,11 +241,12 @@ fields_forth s f b = by (eqb (length s) 268) (known_at s) refl refl
 
 -- ---- what the functions answer
 pub text_copied : (s : List ℕ) (at : ℕ) (b : List ℕ) → at + 52 ≤ length s
-    → b ≡ over_zeros (take (at + 52 - (at + 1)) (drop (at + 1) s)) 51 → record { len = get_or s at 0; bytes = b } ≡ text_at s at
+    → b ≡ take (at + 52 - (at + 1)) (drop (at + 1) s) → record { len = get_or s at 0; bytes = b } ≡ text_at s at
 text_copied s at b h e =
     let k : at + 52 - (at + 1) ≡ 51 = omega arith in
+    let g = rw k at e in
     let d : 51 ≤ length (drop (at + 1) s) = rw length-drop (omega arith) in
-    let g = (rw k at e) ∙ copied_whole (take 51 (drop (at + 1) s)) 51 (length-take-le 51 (drop (at + 1) s) d) in
+    let l = length-take-le 51 (drop (at + 1) s) d in
     rw g
 
 pub fields_are : (s : List ℕ) (h i l u v : CommandString) (k : ScreenAdditionalData)

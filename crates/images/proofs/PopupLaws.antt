@@ -15,7 +15,7 @@ use Rattle.families.specs.Fields.{PopupIs, popup_of}
 use Rattle.families.specs.declared.screen.ScreenPopup.{ScreenPopup}
 use Rattle.families.proofs.Stored.{rest_is}
 use Rattle.images.specs.Popup.{popup_image, popup_from}
-use Rattle.images.proofs.TextLaws.{over_zeros, copied_whole, byte_mod}
+use Rattle.images.proofs.TextLaws.{byte_mod}
 
 pub popup-size : (q : ScreenPopup) → length q.bytes ≡ 55 → length (popup_image q) ≡ 56
 popup-size q l = ap suc l
@@ -42,10 +42,9 @@ pub popup_none : (s : List ℕ) → (length s ≡ 56 → ⊥) → PopupIs (popup
 popup_none s h = rw (ne_eqb (length s) 56 h) (refl, refl)
 
 pub popup-got : (s b : List ℕ) → length s ≡ 56
-    → b ≡ over_zeros (take (length s - 1) (drop 1 s)) 55
+    → b ≡ take (length s - 1) (drop 1 s)
     → PopupIs (popup_from s) (record { outcome = Accepted; popup = record { len = get_or s 0 0; bytes = b } })
 popup-got s b l e =
     let r = rest_is s 1 in
-    let d : length (drop 1 s) ≡ 55 = rw length-drop (omega arith) in
-    let f : b ≡ drop 1 s = (rw r at e) ∙ copied_whole (drop 1 s) 55 d in
+    let f : b ≡ drop 1 s = rw r at e in
     rw (eq-eqb (length s) 56 l) (refl, rw f)

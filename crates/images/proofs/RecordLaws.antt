@@ -39,7 +39,7 @@ use Rattle.commands.specs.declared.CommandAnswer.{CommandAnswer}
 use Rattle.images.specs.Text.{stored}
 use Rattle.images.specs.Values.{payload_laid, word_at, long_at, payload_at}
 use Rattle.images.specs.Record.{record_image, record_at, record_from}
-use Rattle.images.proofs.TextLaws.{over_zeros, front_put, copied_whole, byte_mod}
+use Rattle.images.proofs.TextLaws.{front_put, byte_mod}
 use Rattle.families.proofs.ScreenLaws.{bit_is}
 
 -- a number of four bytes is two of two
@@ -181,12 +181,11 @@ pub told : (a b : Answer DirectCommands) (r : CommandAnswer) → a ≡ b → Com
 told a b r e h = rw e h
 
 pub record_got : (s x : List ℕ) (p : CommandPayload) → length s ≡ 70 → p ≡ payload_at s → record_from s ≡ got (record_at s)
-    → x ≡ over_zeros (take (length s - 15) (drop 15 s)) 55
+    → x ≡ take (length s - 15) (drop 15 s)
     → CommandIs (record_from s)
     (record { outcome = Accepted; command = record { dst_addr = get_or s 0 0; src_addr = get_or s 1 0; payload = p; len = get_or s 14 0; bytes = x } })
 record_got s x p l e h f =
-    let d : length (drop 15 s) ≡ 55 = length-drop 15 s ∙ (let q : length s - 15 ≡ 55 = omega arith in q) in
-    let k : x ≡ drop 15 s = (rw (rest_is s 15) at f) ∙ copied_whole (drop 15 s) 55 d in
+    let k : x ≡ drop 15 s = rw (rest_is s 15) at f in
     told (record_from s) (got (record_at s))
     (record { outcome = Accepted; command = record { dst_addr = get_or s 0 0; src_addr = get_or s 1 0; payload = p; len = get_or s 14 0; bytes = x } })
     h (refl, rw (e, k))

@@ -1,4 +1,4 @@
--- A stored length and its bytes, put; an image put at the front, or behind its head; bytes copied whole. Assumes nothing.
+-- A stored length and its bytes, put; an image put at the front, or behind its head. Assumes nothing.
 use Prim.Native.Nat.{ℕ, suc, ◌+◌, ◌%◌, ◌<◌, ◌≤◌}
 use mathlib.Core.List.{List, ◌++◌, append-nil}
 use mathlib.Core.Path.{◌≡◌, ap, sym, ◌∙◌}
@@ -40,15 +40,6 @@ behind-put h w s s1 q n m l i j e f =
     let o : 0 + length h ≡ n = omega arith in
     let r : length (h ++ w) ≤ length s = rw (length-append h w) (omega arith) in
     p ∙ rw e (sym (rw o at (sets_append h w s 0))) ∙ sym (put_first s (h ++ w) r)
-
--- bytes copied over n zeros; over as many as they are
-abbrev pub over_zeros : List ℕ → ℕ → List ℕ
-over_zeros x n = take (length x) x ++ drop (length x) (replicate n 0)
-
-pub copied_whole : (x : List ℕ) (n : ℕ) → length x ≡ n → over_zeros x n ≡ x
-copied_whole x n e =
-    let l : length {A = ℕ} (replicate n 0) ≤ length x = rw length-replicate (omega arith) in
-    rw (take-length x, drop_of_length-le (replicate n 0) l) (append-nil x)
 
 pub text-size : (t : CommandString) → length t.bytes ≡ 51 → length (text_image t) ≡ 52
 text-size t l = ap suc l

@@ -1,0 +1,12 @@
+-- The kind of a byte. Assumes nothing.
+use borrow.Author.Tests.{ne_eqb}
+use Rattle.images.proofs.fields.kind_at.Goals as goal
+
+pub returns-in-0 : goal.returns-in-0
+returns-in-0 c = rw c.in-0.is
+
+pub returns-in-1 : goal.returns-in-1
+returns-in-1 c = rw c.in-1.is
+
+pub returns-in_default : goal.returns-in_default
+returns-in_default c = let k = c.in_default.in_default-own.rest in rw (ne_eqb _ _ k.0.1, ne_eqb _ _ k.1)

@@ -1,0 +1,12 @@
+-- Byte by byte: what is left decides. Assumes nothing.
+use Prim.Native.Nat.{◌-◌, ◌≤◌}
+use mathlib.Core.Path.{◌≡◌}
+use lib.ListN.{length, drop}
+use Rattle.codec.specs.Same.{same}
+use Rattle.images.proofs.record.same_bytes.Given as goal
+
+abbrev pub invariant-loop-i : goal.invariant-loop-i
+invariant-loop-i l = (l.i ≤ length l.one) × (same l.one l.other ≡ same (drop l.i l.one) (drop l.i l.other))
+
+abbrev pub decreases-loop-i : goal.decreases-loop-i
+decreases-loop-i l = length l.one - l.i
