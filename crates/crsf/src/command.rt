@@ -9,8 +9,7 @@ use images::record::RECORD_SIZE;
 use images::word::{ACCEPTED, refused, written};
 
 // Too short a slice for the image is 3, before all else.
-#[unsafe(no_mangle)]
-pub extern "C" fn crsf_read(payload: &[u8], image: &mut [u8]) -> u32
+pub fn crsf_read(payload: &[u8], image: &mut [u8]) -> u32
     ensures { ReadsOut payload.now result image.old image.new }
 {
     if image.len() < RECORD_SIZE {
@@ -28,8 +27,7 @@ pub extern "C" fn crsf_read(payload: &[u8], image: &mut [u8]) -> u32
     }
 }
 
-#[unsafe(no_mangle)]
-pub extern "C" fn crsf_write(image: &[u8], buffer: &mut [u8]) -> u32
+pub fn crsf_write(image: &[u8], buffer: &mut [u8]) -> u32
     ensures { WritesOut (record_from image.now) result buffer.old buffer.new }
 {
     let answer = images::record::from(image);

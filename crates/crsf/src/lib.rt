@@ -1,4 +1,4 @@
-// The functions that C and Rust call: numbers and byte slices only (include/crsf.h).
+// The functions of the C boundary: numbers and byte slices only (include/crsf.h). crsf_c exports each under its name.
 #![tactic(auto)]
 
 pub mod command;
@@ -11,8 +11,7 @@ ghost use Rattle.std.specs.Prelude.{◌≡◌};
 ghost use Rattle.crc.specs.Check.{command_polynomial, check_from};
 
 // The check of `bytes` from `start`, which is 0 or the check of what came before.
-#[unsafe(no_mangle)]
-pub extern "C" fn crsf_check(bytes: &[u8], start: u8) -> u8
+pub fn crsf_check(bytes: &[u8], start: u8) -> u8
     ensures { result ≡ check_from command_polynomial start bytes.now }
 {
     crc::check(bytes, start)

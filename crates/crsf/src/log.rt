@@ -22,8 +22,7 @@ fn hand_out(after: Replay, told: Event, replay: &mut [u8], event: &mut [u8])
 }
 
 // Too short an event is 3, before all else.
-#[unsafe(no_mangle)]
-pub extern "C" fn crsf_replay(
+pub fn crsf_replay(
     replay: &mut [u8],
     position: u32,
     block: &[u8],

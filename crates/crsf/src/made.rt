@@ -16,8 +16,7 @@ use images::popup::POPUP_SIZE;
 use images::stored::TEXT_SIZE;
 use images::word::{ACCEPTED, refused};
 
-#[unsafe(no_mangle)]
-pub extern "C" fn crsf_text(bytes: &[u8], text: &mut [u8]) -> u32
+pub fn crsf_text(bytes: &[u8], text: &mut [u8]) -> u32
     ensures { TextOut bytes.now result text.old text.new }
 {
     if text.len() < TEXT_SIZE {
@@ -36,8 +35,7 @@ pub extern "C" fn crsf_text(bytes: &[u8], text: &mut [u8]) -> u32
     }
 }
 
-#[unsafe(no_mangle)]
-pub extern "C" fn crsf_ack(
+pub fn crsf_ack(
     command_id: u8,
     sub_command_id: u8,
     action: u8,
@@ -79,8 +77,7 @@ fn make(fields: ScreenPopupFields, popup: &mut [u8]) -> u32
     }
 }
 
-#[unsafe(no_mangle)]
-pub extern "C" fn crsf_popup(fields: &[u8], popup: &mut [u8]) -> u32
+pub fn crsf_popup(fields: &[u8], popup: &mut [u8]) -> u32
     ensures { PopupOut fields.now result popup.old popup.new }
 {
     if popup.len() < POPUP_SIZE {
@@ -114,8 +111,7 @@ fn take_apart(popup: ScreenPopup, fields: &mut [u8]) -> u32
     }
 }
 
-#[unsafe(no_mangle)]
-pub extern "C" fn crsf_popup_fields(popup: &[u8], fields: &mut [u8]) -> u32
+pub fn crsf_popup_fields(popup: &[u8], fields: &mut [u8]) -> u32
     ensures { FieldsOut popup.now result fields.old fields.new }
 {
     if fields.len() < FIELDS_SIZE {

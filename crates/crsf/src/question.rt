@@ -41,8 +41,7 @@ fn hand_back(step: Step, image: &mut [u8]) -> u32
     }
 }
 
-#[unsafe(no_mangle)]
-pub extern "C" fn crsf_question_ask(image: &mut [u8], second: u32, popup: &[u8]) -> u32
+pub fn crsf_question_ask(image: &mut [u8], second: u32, popup: &[u8]) -> u32
     ensures { CallsOut (asking second popup.now) result image.old image.new }
 {
     let read = question_images::from(image);
@@ -60,8 +59,7 @@ pub extern "C" fn crsf_question_ask(image: &mut [u8], second: u32, popup: &[u8])
     }
 }
 
-#[unsafe(no_mangle)]
-pub extern "C" fn crsf_question_return(
+pub fn crsf_question_return(
     image: &mut [u8],
     second: u32,
     value: u8,
@@ -79,8 +77,7 @@ pub extern "C" fn crsf_question_return(
 }
 
 // The image of a popup command that was sent, or of a returned value that has arrived; of another command 2.
-#[unsafe(no_mangle)]
-pub extern "C" fn crsf_question_command(image: &mut [u8], second: u32, command: &[u8]) -> u32
+pub fn crsf_question_command(image: &mut [u8], second: u32, command: &[u8]) -> u32
     ensures { CallsOut (commanding second command.now) result image.old image.new }
 {
     let read = question_images::from(image);
