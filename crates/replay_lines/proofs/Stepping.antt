@@ -52,9 +52,9 @@ enters s b rs w z (e ∷ es) = on e refl (record {
   next = λ n. let f = walks_first b rs w n in (omega (arith, f.0), f);
 })
 enters s b [] w z [] = on _ refl (record { low = omega arith; next = λ n. absurd (n refl) })
-enters s b (r ∷ rs) (e, (there, (holds, (low, (high, w))))) z [] = on _ refl (record {
+enters s b (r ∷ rs) w z [] = on _ refl (record {
   low = omega (arith, z);
-  next = λ n. let f = walks_first b rs w n in (omega (arith, z, f.0), f);
+  next = λ n. let f = walks_first b rs w.1.1.1.1.1 n in (omega (arith, z, f.0), f);
 })
 
 opens-on : (s : Replay) (position : ℕ) (b : List ℕ) (a : Answer (List Record)) → records_of b ≡ a → s.place ≡ 0

@@ -1,0 +1,12 @@
+-- `try_steps` meets its contract: each step goes on in the block, up to the last or the one that refuses. Assumes nothing.
+use Prim.Native.Nat.{◌-◌}
+use mathlib.Core.List.{List}
+use Rattle.replay.specs.declared.Event.{Event}
+use Rattle.replay_lines.proofs.Stepping.{Going}
+use Rattle.replay_lines.proofs.try_steps.Given as goal
+
+abbrev pub invariant-loop-outcome : goal.invariant-loop-outcome
+invariant-loop-outcome l = (so_far : List Event) × Going l.initial.at l.position l.block l.at so_far
+
+abbrev pub decreases-loop-outcome : goal.decreases-loop-outcome
+decreases-loop-outcome l = 512 - l.at.place
