@@ -9,8 +9,8 @@ use contract.Lifetimes.{Lfts}
 use borrow.Fn.Kinds.{Dens, ended_of}
 use denote.Triple.Clauses.{AtExit}
 use lib.ListN.{length, get_or}
-use lib.IntN.{ℤ}
 use Rattle.console.specs.Names.{argument_of}
+use Rattle.console.specs.declared.Source.{Source}
 use Rattle.console.specs.declared.Input.TheVariants.{Opened}
 use Rattle.console.specs.declared.Chunk.TheVariants.{Bytes}
 use Rattle.console.specs.declared.Argument.TheVariants.{StandardInput, Unknown, File}
@@ -22,15 +22,15 @@ use Rattle.console.proofs.write_out.Reads as write-out
 use Rattle.console.proofs.write_out.Kinds as write-out-kinds
 
 -- ---- open_input
-module _ (κs : Lfts 3) (a : Dens κs open-input-kinds.ps) (s : AtExit (ended_of 3 open-input-kinds.ps open-input-kinds.r) κs)
-    (fd : ℤ) (n : ℕ) where
+module _ (κs : Lfts 4) (a : Dens κs open-input-kinds.ps) (s : AtExit (ended_of 4 open-input-kinds.ps open-input-kinds.r) κs)
+    (source : Source) (n : ℕ) where
   -- no name goes beyond the bytes that it has
-  pub name-not-beyond : open-input.Post κs a (Opened fd n) s → length s.1.1.0.now < n → ⊥
+  pub name-not-beyond : open-input.Post κs a (Opened source n) s → length s.1.1.1.0.now < n → ⊥
   name-not-beyond p h = omega (arith, p.fits)
 
   -- it begins with the program's: "b: " is none of "a"
-  pub name-of-another : open-input.Post κs a (Opened fd n) s → a.0.now ≡ 97 ∷ []
-      → s.1.1.0.now ≡ 98 ∷ 58 ∷ 32 ∷ [] → ⊥
+  pub name-of-another : open-input.Post κs a (Opened source n) s → a.1.0.now ≡ 97 ∷ []
+      → s.1.1.1.0.now ≡ 98 ∷ 58 ∷ 32 ∷ [] → ⊥
   name-of-another p e f =
       let begins : ◌≡◌ {A = List ℕ} (98 ∷ 58 ∷ 32 ∷ []) (97 ∷ 58 ∷ 32 ∷ []) = rw (e, f) at p.begins in
       let z : ◌≡◌ {A = ℕ} 98 97 = ap (λ (l : List ℕ). get_or l 0 0) begins in
@@ -50,17 +50,17 @@ pub dash_behind : argument_of (97 ∷ 45 ∷ []) ≡ File
 dash_behind = refl
 
 -- ---- read
-module _ (κs : Lfts 2) (a : Dens κs read-kinds.ps) (s : AtExit (ended_of 2 read-kinds.ps read-kinds.r) κs) where
+module _ (κs : Lfts 4) (a : Dens κs read-kinds.ps) (s : AtExit (ended_of 4 read-kinds.ps read-kinds.r) κs) where
   -- none are no bytes
   pub read_some : read.Post κs a (Bytes 0) s → ⊥
   read_some p = omega (arith, p.0)
 
   -- nor are there more than have room
-  pub read_within : (n : ℕ) → read.Post κs a (Bytes n) s → length s.1.1.0.now < n → ⊥
+  pub read_within : (n : ℕ) → read.Post κs a (Bytes n) s → length s.1.1.1.0.now < n → ⊥
   read_within n p h = omega (arith, p.1)
 
 -- ---- write_out
 -- nothing to be written does not fail
-pub nothing_written : (κs : Lfts 2) (a : Dens κs write-out-kinds.ps) (s : AtExit (ended_of 2 write-out-kinds.ps write-out-kinds.r) κs)
-    → write-out.Post κs a false s → a.0.now ≡ [] → ⊥
+pub nothing_written : (κs : Lfts 3) (a : Dens κs write-out-kinds.ps) (s : AtExit (ended_of 3 write-out-kinds.ps write-out-kinds.r) κs)
+    → write-out.Post κs a false s → a.1.0.now ≡ [] → ⊥
 nothing_written κs a s p e = let f = p e in let z : ◌≡◌ {A = ℕ} 0 1 = cc in omega arith

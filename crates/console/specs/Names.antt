@@ -27,10 +27,10 @@ pub record Named (program : List ℕ) (n : ℕ) (t : List ℕ) : Type 0 where
 
 -- of an input that was opened, so its length and t; of none, nothing is said
 abbrev pub NamedIn : List ℕ → Input → List ℕ → Type 0
-NamedIn program (Opened fd n) t = Named program n t
+NamedIn program (Opened source n) t = Named program n t
 NamedIn program None t = Unit {0}
 
 -- For contracts of private functions, nobody has to believe what follows. An input that was opened has a name of n bytes
 abbrev pub Sized : ℕ → Input → Type 0
-Sized n (Opened fd k) = k ≡ n
+Sized n (Opened source k) = k ≡ n
 Sized n None = Unit {0}

@@ -43,4 +43,6 @@ module _ {room : ℕ} {s₀ s : Listing} {i t t' : List ℕ} {at k : ℕ} {r : P
   -- else it was the chunk's last
   pub part-last : (told_stop r.stop ≡ got false → ⊥)
       → (r.state ≡ state_in (chunk s₀ i)) × (text_of_parts room s₀ i (suc k) ≡ text_of_chunk s₀ i)
-  part-last f = rw (← e) (so_far-ends here h f)
+  part-last f =
+      let ends = so_far-ends here h f in
+      (ends.0, subst (λ (n : ℕ). text_of_parts n s₀ i (suc k) ≡ text_of_chunk s₀ i) e ends.1)

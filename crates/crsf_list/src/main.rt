@@ -1,7 +1,7 @@
 // Document 01, "The listing": of a file or of standard input, to standard output.
 //
-// No contract of the kit says which bytes a call of C's writes. So the functions that hand a text to be written have a `requires` that
-// says which text it is.
+// No contract of std says which bytes reach standard output. So the functions that hand a text to be written have a `requires` that says
+// which text it is.
 #![tactic(auto)]
 
 ghost use Rattle.std.specs.Prelude.{◌≤◌, length};
@@ -12,11 +12,14 @@ ghost use Rattle.text.specs.Putting.{Front};
 ghost use Rattle.crsf_list.specs.Handed.{part_text, Whole};
 
 use codec::writer::Written;
-use console::{Chunk, Input};
+use console::{Chunk, Input, Source};
 use listing::{Listed, Listing, Stop};
 
 // `crsf_list: `, 11 bytes, and the longest path of Linux, 4096, behind it.
 const NAME_ROOM: usize = 4107;
+
+// So much is read at once, and so much text is written at once.
+const LARGE: usize = 65536;
 
 // What was listed of a chunk: the state behind it, the number of its last part, and whether all of it was written.
 #[derive(Clone, Copy)]
@@ -26,27 +29,40 @@ struct Progress {
     wrote: bool,
 }
 
-// A kit program has no exit status: what failed is said on standard error, and no closing line is written.
-fn write_out(text: &[u8]) -> bool {
-    console::write_out(text, b"crsf_list: standard output")
+// What failed is said on standard error, and no closing line is written. The exit status is 0 all the same.
+fn write_out(rt: &HostRuntime, text: &[u8]) -> bool {
+    console::write_out(rt, text, b"crsf_list: standard output")
 }
 
 // Part `turn` of the chunk `input`.
-fn write_part(first: Listing, input: &[u8], turn: u64, text: &[u8], len: usize) -> bool
+fn write_part(
+    rt: &HostRuntime,
+    first: Listing,
+    input: &[u8],
+    turn: u64,
+    text: &[u8],
+    len: usize,
+) -> bool
     requires { Front len text.now (part_text (length text.now) first input.now turn) }
 {
-    write_out(&text[..len])
+    write_out(rt, &text[..len])
 }
 
 // The closing line.
-fn write_closing(state: Listing, text: &[u8], len: usize) -> bool
+fn write_closing(rt: &HostRuntime, state: Listing, text: &[u8], len: usize) -> bool
     requires { Front len text.now (text_of_closing state) }
 {
-    write_out(&text[..len])
+    write_out(rt, &text[..len])
 }
 
 // All lines of a chunk, after so many chunks: nothing waits for the next one.
-fn list_chunk(chunks: u64, first: Listing, input: &[u8], text: &mut [u8]) -> Progress
+fn list_chunk(
+    rt: &HostRuntime,
+    chunks: u64,
+    first: Listing,
+    input: &[u8],
+    text: &mut [u8],
+) -> Progress
     requires { (longest_text ≤ length text.old) × After chunks first }
     ensures { Whole (length text.old) first input.now result }
 {
@@ -57,7 +73,7 @@ fn list_chunk(chunks: u64, first: Listing, input: &[u8], text: &mut [u8]) -> Pro
         let part = state.fill(input, at, text);
         let after = part.state;
         let stop = part.stop;
-        if !write_part(first, input, turn, text, part.len) {
+        if !write_part(rt, first, input, turn, text, part.len) {
             return Progress {
                 state: after,
                 last: turn,
@@ -104,28 +120,28 @@ fn put_closing(state: Listing, text: &mut [u8]) -> usize
 }
 
 // The input has ended, after so many chunks.
-fn close(chunks: u64, state: Listing, text: &mut [u8])
+fn close(rt: &HostRuntime, chunks: u64, state: Listing, text: &mut [u8])
     requires { (longest_text ≤ length text.old) × After chunks state }
 {
     let len = put_closing(state, text);
-    write_closing(state, text, len);
+    write_closing(rt, state, text, len);
 }
 
 // A proved loop has to end, and nothing says that the input does: no input has as many chunks as this loop has turns.
-fn list_all(fd: i32, name: &[u8], input: &mut [u8], text: &mut [u8])
+fn list_all(rt: &HostRuntime, source: &mut Source, name: &[u8], input: &mut [u8], text: &mut [u8])
     requires { longest_text ≤ length text.old }
 {
     let mut state = Listing::new();
     for chunks in 0..u64::MAX {
-        let count = match console::read(fd, name, input) {
+        let count = match console::read(rt, source, name, input) {
             Chunk::Bytes(count) => count,
             Chunk::End => {
-                close(chunks, state, text);
+                close(rt, chunks, state, text);
                 return;
             }
             Chunk::Failed => return,
         };
-        let progress = list_chunk(chunks, state, &input[..count], text);
+        let progress = list_chunk(rt, chunks, state, &input[..count], text);
         if !progress.wrote {
             return;
         }
@@ -134,21 +150,22 @@ fn list_all(fd: i32, name: &[u8], input: &mut [u8], text: &mut [u8])
 }
 
 // What is read, with its name in an error.
-fn list(fd: i32, name: &[u8]) {
-    let mut input = io::large_buffer();
-    let mut text = io::large_buffer();
-    list_all(fd, name, &mut input, &mut text);
+fn list(rt: &HostRuntime, source: &mut Source, name: &[u8]) {
+    let mut input = [0u8; LARGE];
+    let mut text = [0u8; LARGE];
+    list_all(rt, source, name, &mut input, &mut text);
 }
 
-fn main() {
+fn main(rt: HostRuntime) {
     let mut name = [0u8; NAME_ROOM];
     let opened = console::open_input(
+        &rt,
         b"crsf_list",
         b"usage: crsf_list [FILE]\nLists the recording FILE; standard input without FILE, or where it is -.\n",
         &mut name,
     );
-    let Input::Opened { fd, len } = opened else {
+    let Input::Opened { mut source, len } = opened else {
         return;
     };
-    list(fd, &name[..len]);
+    list(&rt, &mut source, &name[..len]);
 }

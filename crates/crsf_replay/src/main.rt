@@ -1,7 +1,7 @@
 // Document 02, Wish 1: a log, in a file or on standard input, replayed to standard output.
 //
-// No contract of the kit says which bytes a call of C's writes. So the functions that hand a text to be written have a `requires` that
-// says which text it is.
+// No contract of std says which bytes reach standard output. So the functions that hand a text to be written have a `requires` that says
+// which text it is.
 #![tactic(auto)]
 
 ghost use Rattle.std.specs.Prelude.{◌≡◌, ◌≤◌, length};
@@ -13,12 +13,14 @@ ghost use Rattle.crsf_replay.specs.Filled.{Holds};
 
 use blocks::BLOCK_SIZE;
 use codec::writer::Written;
-use console::{Chunk, Input};
-use libc::STDERR_FILENO;
+use console::{Chunk, Input, Source};
 use replay::Replay;
 
 // `crsf_replay: `, 13 bytes, and the longest path of Linux, 4096, behind it.
 const NAME_ROOM: usize = 4109;
+
+// More than the lines of a block and the closing line.
+const TEXT_ROOM: usize = 65536;
 
 // What was read of a block: so many bytes, fewer than it has where the input ended; or an error, which was said.
 #[derive(Clone, Copy)]
@@ -34,33 +36,46 @@ struct Progress {
     wrote: bool,
 }
 
-// A kit program has no exit status: what failed is said on standard error, and no closing line is written.
-fn write_out(text: &[u8]) -> bool {
-    console::write_out(text, b"crsf_replay: standard output")
+// What failed is said on standard error, and no closing line is written. The exit status is 0 all the same.
+fn write_out(rt: &HostRuntime, text: &[u8]) -> bool {
+    console::write_out(rt, text, b"crsf_replay: standard output")
 }
 
 // The lines of a block, after so many.
-fn write_block(position: u32, state: Replay, block: &[u8], text: &[u8], len: usize) -> bool
+fn write_block(
+    rt: &HostRuntime,
+    position: u32,
+    state: Replay,
+    block: &[u8],
+    text: &[u8],
+    len: usize,
+) -> bool
     requires { After position state × Front len text.now (block_text state position block.now) }
 {
-    write_out(&text[..len])
+    write_out(rt, &text[..len])
 }
 
 // The closing line, after so many blocks.
-fn write_closing(blocks: u32, state: Replay, text: &[u8], len: usize) -> bool
+fn write_closing(rt: &HostRuntime, blocks: u32, state: Replay, text: &[u8], len: usize) -> bool
     requires { After blocks state × Front len text.now (end_text blocks) }
 {
-    write_out(&text[..len])
+    write_out(rt, &text[..len])
 }
 
 // A block after so many: nothing waits for the next one.
-fn replay_block(position: u32, state: Replay, block: &[u8], text: &mut [u8]) -> Progress
+fn replay_block(
+    rt: &HostRuntime,
+    position: u32,
+    state: Replay,
+    block: &[u8],
+    text: &mut [u8],
+) -> Progress
     requires { (most_text ≤ length text.old) × After position state }
     ensures { result.state ≡ behind_block state position block.now }
 {
     let lines = replay_lines::list_block(state, position, block, text);
     let after = lines.state;
-    let wrote = write_block(position, state, block, text, lines.len);
+    let wrote = write_block(rt, position, state, block, text, lines.len);
     Progress {
         state: after,
         wrote,
@@ -79,20 +94,20 @@ fn put_closing(blocks: u32, text: &mut [u8]) -> usize
 }
 
 // The input has ended, after so many blocks.
-fn close(blocks: u32, state: Replay, text: &mut [u8])
+fn close(rt: &HostRuntime, blocks: u32, state: Replay, text: &mut [u8])
     requires { (most_text ≤ length text.old) × After blocks state }
 {
     let len = put_closing(blocks, text);
-    write_closing(blocks, state, text, len);
+    write_closing(rt, blocks, state, text, len);
 }
 
 // A block, or what is left over at the input's end. A pipe hands it out in pieces.
-fn read_block(fd: i32, name: &[u8], block: &mut [u8]) -> Filled
+fn read_block(rt: &HostRuntime, source: &mut Source, name: &[u8], block: &mut [u8]) -> Filled
     ensures { Holds result block.new }
 {
     let mut len: usize = 0;
     while len < block.len() {
-        let count = match console::read(fd, name, &mut block[len..]) {
+        let count = match console::read(rt, source, name, &mut block[len..]) {
             Chunk::Bytes(count) => count,
             Chunk::End => return Filled::Bytes(len),
             Chunk::Failed => return Filled::Failed,
@@ -103,49 +118,52 @@ fn read_block(fd: i32, name: &[u8], block: &mut [u8]) -> Filled
 }
 
 // Positions are 32 bits wide; a log that goes beyond them is told and not closed.
-fn replay_all(fd: i32, name: &[u8], block: &mut [u8], text: &mut [u8])
+fn replay_all(rt: &HostRuntime, source: &mut Source, name: &[u8], block: &mut [u8], text: &mut [u8])
     requires { most_text ≤ length text.old }
 {
     let mut state = Replay::new();
     for position in 0..u32::MAX {
-        let len = match read_block(fd, name, block) {
+        let len = match read_block(rt, source, name, block) {
             Filled::Bytes(len) => len,
             Filled::Failed => return,
         };
         if len == 0 {
-            close(position, state, text);
+            close(rt, position, state, text);
             return;
         }
-        let progress = replay_block(position, state, &block[..len], text);
+        let progress = replay_block(rt, position, state, &block[..len], text);
         let after = progress.state;
         if !progress.wrote {
             return;
         }
         if len < BLOCK_SIZE {
-            close(position + 1, after, text);
+            close(rt, position + 1, after, text);
             return;
         }
         state = after;
     }
-    io::write_all(STDERR_FILENO, b"crsf_replay: more than 4294967294 blocks\n");
+    let _ = rt
+        .stderr()
+        .write_all(b"crsf_replay: more than 4294967294 blocks\n");
 }
 
 // What is read, with its name in an error.
-fn replay(fd: i32, name: &[u8]) {
+fn replay(rt: &HostRuntime, source: &mut Source, name: &[u8]) {
     let mut block = [0u8; BLOCK_SIZE];
-    let mut text = io::large_buffer();
-    replay_all(fd, name, &mut block, &mut text);
+    let mut text = [0u8; TEXT_ROOM];
+    replay_all(rt, source, name, &mut block, &mut text);
 }
 
-fn main() {
+fn main(rt: HostRuntime) {
     let mut name = [0u8; NAME_ROOM];
     let opened = console::open_input(
+        &rt,
         b"crsf_replay",
         b"usage: crsf_replay [FILE]\nReplays the log FILE; standard input without FILE, or where it is -.\n",
         &mut name,
     );
-    let Input::Opened { fd, len } = opened else {
+    let Input::Opened { mut source, len } = opened else {
         return;
     };
-    replay(fd, &name[..len]);
+    replay(&rt, &mut source, &name[..len]);
 }

@@ -5,12 +5,14 @@
 ghost use Rattle.std.specs.Prelude.{◌≤◌, length};
 
 use codec::writer::Written;
-use libc::{STDIN_FILENO, STDOUT_FILENO};
 use listing::line::Line;
 use listing::{Listed, Listing};
 
 // More than the two length bytes of a case can say.
 const WHOLE: usize = 65536;
+
+// For a case's input, for its listing, and for the same in chunks.
+const ROOM: usize = 65536;
 
 #[derive(Clone, Copy)]
 enum Case {
@@ -97,12 +99,12 @@ fn agrees(input: &[u8], size: usize, whole: &[u8], end: usize, text: &mut [u8]) 
     requires { end ≤ length whole.now }
 {
     let len = feed(input, size, text);
-    check::same(&whole[..end], &text[..len])
+    whole[..end] == text[..len]
 }
 
-fn list_case(input: &[u8], whole: &mut [u8], text: &mut [u8]) {
+fn list_case(rt: &HostRuntime, input: &[u8], whole: &mut [u8], text: &mut [u8]) {
     let len = feed(input, WHOLE, whole);
-    io::write_all(STDOUT_FILENO, &whole[..len]);
+    let _ = rt.write_all(&whole[..len]);
     let one = agrees(input, 1, whole, len, text);
     let two = agrees(input, 2, whole, len, text);
     let three = agrees(input, 3, whole, len, text);
@@ -110,13 +112,13 @@ fn list_case(input: &[u8], whole: &mut [u8], text: &mut [u8]) {
     if one && two && three && seven {
         return;
     }
-    io::write_all(STDOUT_FILENO, b"differs\n");
+    let _ = rt.write_all(b"differs\n");
 }
 
 // A case's bytes, at the start of `space`.
-fn read_case(space: &mut [u8]) -> Case {
+fn read_case(rt: &HostRuntime, space: &mut [u8]) -> Case {
     let mut head = [0u8; 2];
-    let got = io::read_full(STDIN_FILENO, &mut head);
+    let got = console::read_full(rt, &mut head);
     if got == 0 {
         return Case::End;
     }
@@ -124,7 +126,7 @@ fn read_case(space: &mut [u8]) -> Case {
     if space.len() < len {
         return Case::Cut;
     }
-    let read = io::read_full(STDIN_FILENO, &mut space[..len]);
+    let read = console::read_full(rt, &mut space[..len]);
     if read < len {
         return Case::Cut;
     }
@@ -132,16 +134,16 @@ fn read_case(space: &mut [u8]) -> Case {
 }
 
 // One case; false where there is none.
-fn next_case(space: &mut [u8], whole: &mut [u8], text: &mut [u8]) -> bool {
-    match read_case(space) {
+fn next_case(rt: &HostRuntime, space: &mut [u8], whole: &mut [u8], text: &mut [u8]) -> bool {
+    match read_case(rt, space) {
         Case::Bytes(len) => {
             if len <= space.len() {
-                list_case(&space[..len], whole, text);
+                list_case(rt, &space[..len], whole, text);
             }
             true
         }
         Case::Cut => {
-            io::write_all(STDOUT_FILENO, b"a case is cut\n");
+            let _ = rt.write_all(b"a case is cut\n");
             false
         }
         Case::End => false,
@@ -149,16 +151,16 @@ fn next_case(space: &mut [u8], whole: &mut [u8], text: &mut [u8]) -> bool {
 }
 
 // A proved loop has to end, and nothing says that the input does: no list has as many cases as this loop has turns.
-fn list_cases(space: &mut [u8], whole: &mut [u8], text: &mut [u8]) {
+fn list_cases(rt: &HostRuntime, space: &mut [u8], whole: &mut [u8], text: &mut [u8]) {
     let mut turns = u64::MAX;
-    while turns > 0 && next_case(space, whole, text) {
+    while turns > 0 && next_case(rt, space, whole, text) {
         turns -= 1;
     }
 }
 
-fn main() {
-    let mut space = io::large_buffer();
-    let mut whole = io::large_buffer();
-    let mut text = io::large_buffer();
-    list_cases(&mut space, &mut whole, &mut text);
+fn main(rt: HostRuntime) {
+    let mut space = [0u8; ROOM];
+    let mut whole = [0u8; ROOM];
+    let mut text = [0u8; ROOM];
+    list_cases(&rt, &mut space, &mut whole, &mut text);
 }

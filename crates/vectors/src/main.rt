@@ -55,9 +55,9 @@ const EDIT_LIST: u8 = 10;
 const QUESTIONS: u8 = 11;
 
 // A length of two bytes, then that many bytes, which go to the start of `space`.
-fn read_part(space: &mut [u8]) -> Part {
+fn read_part(rt: &HostRuntime, space: &mut [u8]) -> Part {
     let mut head = [0u8; 2];
-    let got = io::read_full(0, &mut head);
+    let got = console::read_full(rt, &mut head);
     if got < 2 {
         return Part::Cut;
     }
@@ -65,7 +65,7 @@ fn read_part(space: &mut [u8]) -> Part {
     if space.len() < len {
         return Part::Cut;
     }
-    let read = io::read_full(0, &mut space[..len]);
+    let read = console::read_full(rt, &mut space[..len]);
     if read < len {
         return Part::Cut;
     }
@@ -110,31 +110,31 @@ fn judged(kind: u8, input: &[u8], n: usize, stored: &[u8], m: usize) -> Record {
 }
 
 // Both parts of a record, after its kind.
-fn read_both(kind: u8, input: &mut [u8], stored: &mut [u8]) -> Record {
-    let first = read_part(input);
+fn read_both(rt: &HostRuntime, kind: u8, input: &mut [u8], stored: &mut [u8]) -> Record {
+    let first = read_part(rt, input);
     let Part::Bytes(n) = first else {
         return Record::Cut;
     };
-    let second = read_part(stored);
+    let second = read_part(rt, stored);
     let Part::Bytes(m) = second else {
         return Record::Cut;
     };
     judged(kind, input, n, stored, m)
 }
 
-fn read_record() -> Record {
+fn read_record(rt: &HostRuntime) -> Record {
     let mut kind = [0u8; 1];
-    let got = io::read_full(0, &mut kind);
+    let got = console::read_full(rt, &mut kind);
     if got == 0 {
         return Record::End;
     }
     let mut input = [0u8; 512];
     let mut stored = [0u8; 512];
-    read_both(kind[0], &mut input, &mut stored)
+    read_both(rt, kind[0], &mut input, &mut stored)
 }
 
 fn one_more(n: u64) -> u64 {
-    std::num::wrapping_add_u64(n, 1)
+    n.wrapping_add(1)
 }
 
 fn place_of(kind: u8) -> usize
@@ -170,18 +170,17 @@ fn is_whole(r: Record) -> bool {
     }
 }
 
-fn print_line(name: &[u8], n: u64) {
-    io::write_all(1, name);
-    io::print_decimal(1, n);
-    io::write_all(1, b"\n");
+fn print_line(rt: &HostRuntime, name: &[u8], n: u64) {
+    let _ = rt.write_all(name);
+    let _ = rt.println(n);
 }
 
 // Names the n-th record, counted from 0, where it differs.
-fn name_differing(r: Record, n: u64) {
+fn name_differing(rt: &HostRuntime, r: Record, n: u64) {
     match r {
         Record::Agrees(_) => {}
         Record::Differs => {
-            print_line(b"differs: record ", n);
+            print_line(rt, b"differs: record ", n);
         }
         Record::Cut => {}
         Record::End => {}
@@ -189,16 +188,16 @@ fn name_differing(r: Record, n: u64) {
 }
 
 // A proved loop has to end, and nothing says that the input does: no list has as many records as this loop has turns.
-fn replay() -> Tally {
+fn replay(rt: &HostRuntime) -> Tally {
     let mut tally = Tally {
         kinds: [0u64; 12],
         differ: 0,
         cut: 0,
     };
     for n in 0..u64::MAX {
-        let r = read_record();
+        let r = read_record(rt);
         tally = counted(tally, r);
-        name_differing(r, n);
+        name_differing(rt, r, n);
         if !is_whole(r) {
             return tally;
         }
@@ -206,20 +205,20 @@ fn replay() -> Tally {
     tally
 }
 
-fn main() {
-    let tally = replay();
+fn main(rt: HostRuntime) {
+    let tally = replay(&rt);
     let kinds = tally.kinds;
-    print_line(b"check ", kinds[1]);
-    print_line(b"payload check ", kinds[2]);
-    print_line(b"read ", kinds[3]);
-    print_line(b"write ", kinds[4]);
-    print_line(b"text ", kinds[5]);
-    print_line(b"ack ", kinds[6]);
-    print_line(b"popup ", kinds[7]);
-    print_line(b"inspect ", kinds[8]);
-    print_line(b"edit ", kinds[9]);
-    print_line(b"edit list ", kinds[10]);
-    print_line(b"questions ", kinds[11]);
-    print_line(b"differ ", tally.differ);
-    print_line(b"cut ", tally.cut);
+    print_line(&rt, b"check ", kinds[1]);
+    print_line(&rt, b"payload check ", kinds[2]);
+    print_line(&rt, b"read ", kinds[3]);
+    print_line(&rt, b"write ", kinds[4]);
+    print_line(&rt, b"text ", kinds[5]);
+    print_line(&rt, b"ack ", kinds[6]);
+    print_line(&rt, b"popup ", kinds[7]);
+    print_line(&rt, b"inspect ", kinds[8]);
+    print_line(&rt, b"edit ", kinds[9]);
+    print_line(&rt, b"edit list ", kinds[10]);
+    print_line(&rt, b"questions ", kinds[11]);
+    print_line(&rt, b"differ ", tally.differ);
+    print_line(&rt, b"cut ", tally.cut);
 }
