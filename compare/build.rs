@@ -8,7 +8,7 @@ fn main() {
     let archive = folder.join("libagain.a");
     if !archive.is_file() {
         eprintln!("{} is missing.", archive.display());
-        eprintln!("Run `rt staticlib again` at the project's root.");
+        eprintln!("Run `tools/made again` at the project's root.");
         exit(1);
     }
     println!("cargo:rerun-if-changed={}", archive.display());

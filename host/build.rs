@@ -38,7 +38,7 @@ fn folder() -> PathBuf {
 fn missing(archive: &Path) -> ! {
     eprintln!("{} is missing.", archive.display());
     eprintln!(
-        "Run `rt staticlib crsf` at the project's root, which makes target/staticlib/libcrsf.a,"
+        "Run `tools/made crsf` at the project's root, which makes target/staticlib/libcrsf.a,"
     );
     eprintln!("or set {VARIABLE} to the folder that holds libcrsf.a.");
     exit(1)

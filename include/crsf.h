@@ -1,4 +1,4 @@
-/* CRSF direct commands (frame type 0x32): the functions of libcrsf.a, which `rt staticlib crsf` makes.
+/* CRSF direct commands (frame type 0x32): the functions of libcrsf.a, which `tools/made crsf` makes.
  *
  * To read a payload: crsf_read gives a record, which says the command by its id and sub-command, then its values.
  * To send a command: fill a record, zeros first; crsf_write gives the payload.

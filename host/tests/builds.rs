@@ -47,7 +47,7 @@ fn a_missing_archive_is_named_and_how_to_make_it() {
     assert!(!built);
     for words in [
         &*format!("{empty}/libcrsf.a is missing."),
-        "Run `rt staticlib crsf`",
+        "Run `tools/made crsf`",
         "or set CRSF_ARCHIVE",
     ] {
         assert!(said.contains(words), "{said}");

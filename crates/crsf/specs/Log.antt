@@ -1,7 +1,7 @@
 -- The log replayed: the answer's word, and the bytes that are left of the replay and of the event. Assumes nothing.
 use Rattle.std.specs.Prelude.{ℕ, Bool, true, false, ◌≡◌, List, length, eqb}
 use Rattle.codec.specs.Pick.{pick}
-use Rattle.codec.specs.Sheet.{Answer, got, refused, and_then}
+use Rattle.codec.specs.Sheet.{Answer, got, and_then}
 use Rattle.replay.specs.Step.{Stepped, step_of}
 use Rattle.replay.specs.declared.Event.{Event}
 use Rattle.replay.specs.declared.Replay.{Replay}

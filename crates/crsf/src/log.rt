@@ -22,12 +22,7 @@ fn hand_out(after: Replay, told: Event, replay: &mut [u8], event: &mut [u8])
 }
 
 // Too short an event is 3, before all else.
-pub fn crsf_replay(
-    replay: &mut [u8],
-    position: u32,
-    block: &[u8],
-    event: &mut [u8],
-) -> u32
+pub fn crsf_replay(replay: &mut [u8], position: u32, block: &[u8], event: &mut [u8]) -> u32
     ensures { ReplaysOut position block.now result replay.old replay.new
         event.old event.new }
 {

@@ -59,12 +59,7 @@ pub fn crsf_question_ask(image: &mut [u8], second: u32, popup: &[u8]) -> u32
     }
 }
 
-pub fn crsf_question_return(
-    image: &mut [u8],
-    second: u32,
-    value: u8,
-    response: u8,
-) -> u32
+pub fn crsf_question_return(image: &mut [u8], second: u32, value: u8, response: u8) -> u32
     ensures { CallsOut (returning second value response) result image.old image.new }
 {
     let read = question_images::from(image);

@@ -15,7 +15,7 @@ use Rattle.codec.specs.Writing.{ok_item, ok_items, nonzero, write_items}
 use Rattle.codec.specs.Refusals.{number_in}
 use Rattle.codec.proofs.Back.{both}
 use Rattle.codec.proofs.Stops.{each_room}
-use Rattle.codec.proofs.Joins.{none, ok_join, stop-join}
+use Rattle.codec.proofs.Joins.{ok_join, stop-join}
 use Rattle.codec.proofs.Packed.{byte_ok, flag_ok}
 use Rattle.families.specs.declared.text.CommandString.{CommandString}
 use Rattle.families.specs.declared.screen.ScreenPopup.{ScreenPopup}

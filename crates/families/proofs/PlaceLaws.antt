@@ -7,7 +7,7 @@ use native.Mathlib.Omega.{arith}
 use lib.ListN.{length, get_or, take, drop, drop_of_length-le, length-drop}
 use lib.Seq.{drop-cons, length-take-le}
 use borrow.Author.Tests.{eq-eqb, ne_eqb}
-use Rattle.codec.specs.Sheet.{Item, text, byte, flag, field, Answer, got, refused, and_then}
+use Rattle.codec.specs.Sheet.{byte, flag, field, Answer, got, refused, and_then}
 use Rattle.codec.specs.Reading.{read_item, read_items, end_of}
 use Rattle.codec.specs.Refusals.{refusal_number}
 use Rattle.codec.specs.Told.{bit, told_number, at_most, told_flag, told_text, text_in}

@@ -9,7 +9,7 @@ use lib.Seq.{drop-drop}
 use lib.Dec.{eqb}
 use Rattle.codec.specs.Pick.{pick}
 use Rattle.codec.specs.Sheet.{Item, Answer, got, refused, and_then, Said, byte, size_of, first}
-use Rattle.codec.specs.Reading.{read_item, read_items, end_of, read_row}
+use Rattle.codec.specs.Reading.{read_items, end_of, read_row}
 use Rattle.codec.specs.Taking.{Takes, read_behind}
 use Rattle.codec.proofs.InRow.{read_behind_lem, body_taken}
 use Rattle.families.specs.declared.screen.ScreenAdditionalData.{ScreenAdditionalData}

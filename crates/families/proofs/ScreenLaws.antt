@@ -1,5 +1,5 @@
 -- What the functions of Screen cite: reading, writing, inspection. Assumes nothing.
-use Prim.Native.Nat.{ℕ, ◌+◌, ◌-◌, ◌<◌, ◌≤◌}
+use Prim.Native.Nat.{ℕ, ◌+◌, ◌<◌, ◌≤◌}
 use mathlib.Core.Bool.{Bool, true, false}
 use mathlib.Core.List.{List, [], ◌∷◌, ◌++◌}
 use mathlib.Core.Path.{◌≡◌, refl, ap, sym, ◌∙◌}
@@ -12,7 +12,7 @@ use lib.Dec.{leb, eqb}
 use borrow.Author.Tests.{le-leb, lt-leb, eq-eqb, ne_eqb}
 use Rattle.crc.specs.Check.{Bytes}
 use Rattle.codec.specs.Pick.{pick}
-use Rattle.codec.specs.Sheet.{Answer, got, refused, and_then, said, byte}
+use Rattle.codec.specs.Sheet.{Answer, got, refused, and_then, said}
 use Rattle.codec.specs.Writing.{put_at, write_body}
 use Rattle.codec.specs.Refusals.{refusal_number, outcome_number}
 use Rattle.codec.specs.Told.{bit, WritesAll}

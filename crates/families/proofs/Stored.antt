@@ -9,7 +9,7 @@ use native.Mathlib.Nat.{add-sub_cancel_left, zero-sub, sub-zero, suc-sub-suc}
 use lib.Bits.{bit_or, or_zero_l, or_add_and, and_le_r}
 use lib.Dec.{eqb}
 use lib.ListN.{length, get_or, drop, take, replicate, drop_of_length-le, length-drop}
-use lib.Seq.{drop-cons, take_all, take-length, length-take-le}
+use lib.Seq.{drop-cons, take_all, length-take-le}
 use borrow.Author.Tests.{eq-eqb, ne_eqb, le-leb}
 use Rattle.codec.specs.Pick.{pick}
 use Rattle.codec.specs.Writing.{nonzero}

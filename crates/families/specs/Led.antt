@@ -8,7 +8,6 @@ use Rattle.codec.specs.Refusals.{refusal_number}
 use Rattle.codec.specs.declared.reader.NumberRead.{NumberRead}
 use Rattle.codec.specs.declared.reader.NumberRead.TheVariants.{Got as GotNumber, Refused as RefusedNumber}
 use Rattle.families.specs.Sheets.{colour}
-use Rattle.families.specs.declared.led.Fade.{Fade}
 use Rattle.families.specs.declared.led.FadeRead.{FadeRead}
 use Rattle.families.specs.declared.led.FadeRead.TheVariants.{Got as GotFade, Refused as RefusedFade}
 use Rattle.families.specs.declared.led.LedColor.{LedColor}

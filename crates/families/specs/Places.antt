@@ -24,7 +24,6 @@ use Rattle.families.specs.declared.popup.Head.{Head}
 use Rattle.families.specs.declared.popup.HeadRead.{HeadRead}
 use Rattle.families.specs.declared.popup.HeadRead.TheVariants.{Got as GotHead, Refused as RefusedHead}
 use Rattle.families.specs.declared.popup.Four.{Four}
-use Rattle.families.specs.declared.popup.Selected.{Selected}
 use Rattle.families.specs.declared.popup.SelectedRead.{SelectedRead}
 use Rattle.families.specs.declared.popup.SelectedRead.TheVariants.{Got as GotSelected, Refused as RefusedSelected}
 use Rattle.families.specs.declared.popup.More.{More}

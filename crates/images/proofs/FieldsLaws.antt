@@ -245,8 +245,6 @@ pub text_copied : (s : List ℕ) (at : ℕ) (b : List ℕ) → at + 52 ≤ lengt
 text_copied s at b h e =
     let k : at + 52 - (at + 1) ≡ 51 = omega arith in
     let g = rw k at e in
-    let d : 51 ≤ length (drop (at + 1) s) = rw length-drop (omega arith) in
-    let l = length-take-le 51 (drop (at + 1) s) d in
     rw g
 
 pub fields_are : (s : List ℕ) (h i l u v : CommandString) (k : ScreenAdditionalData)

@@ -1,10 +1,10 @@
 -- A stored length and its bytes, put; an image put at the front, or behind its head. Assumes nothing.
 use Prim.Native.Nat.{ℕ, suc, ◌+◌, ◌%◌, ◌<◌, ◌≤◌}
-use mathlib.Core.List.{List, ◌++◌, append-nil}
+use mathlib.Core.List.{List, ◌++◌}
 use mathlib.Core.Path.{◌≡◌, ap, sym, ◌∙◌}
 use native.Mathlib.Omega.{arith}
-use lib.ListN.{length, take, drop, set, replicate, length-set, length-replicate, length-append, length-drop, drop_of_length-le}
-use lib.Seq.{sets, take-length, length-sets, length-take-le}
+use lib.ListN.{length, take, drop, set, length-set, length-append, length-drop}
+use lib.Seq.{sets, length-sets, length-take-le}
 use borrow.Rule.Slice.PartMut.{put_mid}
 use Rattle.codec.specs.Writing.{put_at}
 use Rattle.codec.proofs.Loops.{sets_append}

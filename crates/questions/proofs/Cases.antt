@@ -1,9 +1,9 @@
 -- What a kept question replies, case by case, in the order in which a call is judged. Assumes nothing.
-use Prim.Native.Nat.{ℕ, zero, suc, ◌-◌, ◌<◌, ◌≤◌}
+use Prim.Native.Nat.{ℕ, zero, suc, ◌<◌, ◌≤◌}
 use mathlib.Core.Bool.{Bool, true, false}
-use mathlib.Core.Path.{◌≡◌, refl, ap, sym, ◌∙◌}
+use mathlib.Core.Path.{◌≡◌, refl, sym, ◌∙◌}
 use native.Mathlib.Omega.{arith}
-use borrow.Author.Tests.{lt-ltb, le-ltb, lt-leb, le-leb}
+use borrow.Author.Tests.{lt-leb, le-leb}
 use lib.Dec.{leb}
 use Rattle.codec.specs.Pick.{pick}
 use Rattle.codec.specs.Sheet.{got, refused}
@@ -15,7 +15,7 @@ use Rattle.families.specs.declared.screen.ScreenPopupFields.{ScreenPopupFields}
 use Rattle.families.specs.declared.payload.CommandPayload.{CommandPayload}
 use Rattle.commands.specs.declared.DirectCommands.{DirectCommands}
 use Rattle.questions.specs.Table.{Call, asks, returns, neither, Told, opened, processed, cancelled, expired, in_time, in_range, to_popup, to_value, to_return, answer, fields_in}
-use Rattle.questions.specs.Kept.{call_by, call_of, reason_number, told_reply, state_of, in_limits, reply_to, opens, closes, kept_after, StepIs, lowest, highest, terms_of, TermsAre, waits_at}
+use Rattle.questions.specs.Kept.{call_by, call_of, reason_number, told_reply, state_of, in_limits, reply_to, opens, closes, StepIs, lowest, highest, terms_of, TermsAre, waits_at}
 use Rattle.questions.specs.declared.Question.{Question}
 use Rattle.questions.specs.declared.Reason.{Reason}
 use Rattle.questions.specs.declared.Reply.{Reply}

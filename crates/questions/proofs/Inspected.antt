@@ -16,7 +16,6 @@ use Rattle.families.specs.Popup.{Popup, read_popup, write_popup}
 use Rattle.families.specs.Fields.{fields_of, whole, inspect, is_got, FieldsIs}
 use Rattle.families.specs.declared.screen.FieldsAnswer.{FieldsAnswer}
 use Rattle.families.specs.declared.screen.ScreenAdditionalData.{ScreenAdditionalData}
-use Rattle.families.specs.declared.screen.ScreenAdditionalData.TheVariants.{Absent, Empty, Selection}
 use Rattle.families.specs.declared.screen.ScreenPopup.{ScreenPopup}
 use Rattle.families.specs.declared.screen.ScreenPopupFields.{ScreenPopupFields}
 use Rattle.questions.specs.Table.{fields_in}

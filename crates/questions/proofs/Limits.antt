@@ -11,7 +11,7 @@ use Rattle.codec.proofs.Back.{both}
 use Rattle.families.specs.Text.{zeros}
 use Rattle.families.specs.Fields.{inspect, is_got, made_popup}
 use Rattle.families.specs.declared.screen.ScreenPopupFields.{ScreenPopupFields}
-use Rattle.questions.specs.Table.{Told, clocked, fields_in}
+use Rattle.questions.specs.Table.{Told, clocked}
 use Rattle.questions.specs.Kept.{state_of, nothing_sent, soundly_sent, in_limits, unsound_terms, terms_of, TermsAre}
 use Rattle.questions.specs.declared.Question.{Question}
 use Rattle.questions.specs.declared.kept.Terms.{Terms}

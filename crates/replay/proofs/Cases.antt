@@ -19,15 +19,15 @@ use Rattle.commands.specs.declared.DirectCommands.{DirectCommands}
 use Rattle.commands.specs.declared.CommandAnswer.{CommandAnswer}
 use Rattle.commands.proofs.Known.{read_some, accepted_is, refused_is}
 use Rattle.blocks.specs.Block.{block_number, Record, records_of}
-use Rattle.blocks.specs.Walk.{first_of, Opening, opening, opening_of, Standing, standing, record_at, payload_in, damage_number, told_judged, told_walked}
+use Rattle.blocks.specs.Walk.{first_of, opening, opening_of, Standing, standing, record_at, damage_number, told_judged, told_walked}
 use Rattle.blocks.specs.declared.Damage.{Damage}
 use Rattle.blocks.specs.declared.Judged.{Judged}
 use Rattle.blocks.specs.declared.Judged.TheVariants.{Sound, Damaged}
 use Rattle.blocks.specs.declared.Walked.{Walked}
 use Rattle.blocks.specs.declared.Walked.TheVariants.{Record as Stands, Nothing}
-use Rattle.blocks.proofs.Walks.{Walks, sound_walks, stands-within, records-some}
-use Rattle.replay.specs.Events.{record_event, block_event, damaged_event, gap_event, back_event, nothing_event}
-use Rattle.replay.specs.Log.{none, after, ordered}
+use Rattle.blocks.proofs.Walks.{Walks, sound_walks, stands-within}
+use Rattle.replay.specs.Events.{record_event, damaged_event, gap_event, back_event, nothing_event}
+use Rattle.replay.specs.Log.{ordered}
 use Rattle.replay.specs.Step.{sound, before_of, step, beyond, goes_on, in_limits, entering, opens, step_of, Stepped, StepIs, Opens, records_in}
 use Rattle.replay.specs.declared.Event.{Event}
 use Rattle.replay.specs.declared.Kind.TheVariants.{Refused as RefusedRecord}

@@ -14,12 +14,11 @@ returns-then-answers-count c =
     c.args.answers.now c.if-edits-ne0.false c.if-answers-count.true)
 
 pub apply_each-requires : goal.apply_each-requires
-apply_each-requires c =
-    (
-      opened_is c.args.payload.now c.«open».result c.in-Got.layout
-          c.in-Got.is c.«open».ensures,
-      (omega arith, c.if-answers-count.false),
-    )
+apply_each-requires c = (
+  opened_is c.args.payload.now c.«open».result c.in-Got.layout
+      c.in-Got.is c.«open».ensures,
+  (omega arith, c.if-answers-count.false),
+)
 
 pub returns-in-Got : goal.returns-in-Got
 returns-in-Got c =

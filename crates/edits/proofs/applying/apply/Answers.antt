@@ -8,13 +8,12 @@ pub row-row-requires : goal.row-row-requires
 row-row-requires c = places-small c.args.field c.args.number c.requires
 
 pub returns-then-not-among : goal.returns-then-not-among
-returns-then-not-among c =
-    (
-      rw c.number.ensures (answers_none c.args.field c.args.number c.requires
-          c.row-row.result c.row-row.ensures
-          (sym c.among.ensures ∙ c.if-not-among.true)),
-      c.requires,
-    )
+returns-then-not-among c = (
+  rw c.number.ensures (answers_none c.args.field c.args.number c.requires
+      c.row-row.result c.row-row.ensures
+      (sym c.among.ensures ∙ c.if-not-among.true)),
+  c.requires,
+)
 
 pub returns-then-number-row : goal.returns-then-number-row
 returns-then-number-row c =

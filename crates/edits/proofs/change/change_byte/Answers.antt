@@ -10,14 +10,13 @@ overflow_cast-old c =
     record { fits = omega (arith, h) }
 
 pub replace-requires : goal.replace-requires
-replace-requires c =
-    (
-      c.requires.counts,
-      (
-        c.requires.values,
-        rw (byte-number c.args.payload.now c.args.at (omega (arith, c.requires.there))) at c.requires.fits,
-      ),
-    )
+replace-requires c = (
+  c.requires.counts,
+  (
+    c.requires.values,
+    rw (byte-number c.args.payload.now c.args.at (omega (arith, c.requires.there))) at c.requires.fits,
+  ),
+)
 
 pub bounds-payload-last : goal.bounds-payload-last
 bounds-payload-last c =

@@ -19,6 +19,6 @@ returns c =
     c.after_text-timeout.result c.after_text.ensures.0
     c.after_text-timeout.ensures.0
     (elim c.if-label-stored.branch [
-      then-label-stored+else-payload-label-ne0 w ↦ inl (w.if-label-stored.true, w.if-payload-label-ne0.false)
+      | then-label-stored+else-payload-label-ne0 w ↦ inl (w.if-label-stored.true, w.if-payload-label-ne0.false)
       | else-label-stored w ↦ inr w.if-label-stored.false
     ]))

@@ -16,7 +16,7 @@ returns c =
     let e = rw c.of_vtx.ensures at c.fits.ensures in
     e ∙ unset_clear c.args.command c.args.payload.now _
     (elim c.if-is_pit.branch [
-      then-is_pit+then-payload-gt-PIT_BYTE+else-payload-gt-PIT_BITS w ↦ inl w.if-payload-gt-PIT_BITS.false
+      | then-is_pit+then-payload-gt-PIT_BYTE+else-payload-gt-PIT_BITS w ↦ inl w.if-payload-gt-PIT_BITS.false
       | then-is_pit+else-payload-gt-PIT_BYTE w ↦ inr (inl w.if-payload-gt-PIT_BYTE.false)
       | else-is_pit w ↦ inr (inr (sym d ∙ w.if-is_pit.false))
     ])

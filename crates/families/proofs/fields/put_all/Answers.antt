@@ -11,9 +11,9 @@ use Rattle.families.proofs.fields.put_all.Goals as goal
 
 pub put_head-more_at-requires : goal.put_head-more_at-requires
 put_head-more_at-requires c = let z : Sized c.args.fields × Ranged c.args.fields = (
-      (search rules, (search rules, (search rules, (search rules, search rules)))),
-      (search rules, (search rules, (search rules, (search rules, search rules)))),
-    ) in head-room
+  (search rules, (search rules, (search rules, (search rules, search rules)))),
+  (search rules, (search rules, (search rules, (search rules, search rules)))),
+) in head-room
     c.args.fields z.0 z.1 c.requires.0 _
     c.requires.1
 

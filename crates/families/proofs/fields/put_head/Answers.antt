@@ -38,8 +38,7 @@ shape_of-out c =
 
 pub returns : goal.returns
 returns c =
-    let long : (length c.args.header.bytes ≡ 51) × (length c.args.info.bytes ≡ 51) = (search rules, search rules) in
-    (
+    let long : (length c.args.header.bytes ≡ 51) × (length c.args.info.bytes ≡ 51) = (search rules, search rules) in (
       head-put c.args.out.now c.put_text-info_at.new.out c.put_text-timeout_at.new.out
           c.args.header c.args.info c.args.timeout c.put_text-info_at.result
           c.put_text-timeout_at.result c.bit_of-close_byte.result c.args.close

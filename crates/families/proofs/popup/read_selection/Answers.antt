@@ -34,10 +34,9 @@ returns-in-Got c =
     at c.take_selection.ensures)
 
 pub returns-in-Refused : goal.returns-in-Refused
-returns-in-Refused c =
-    (
-      selection-not c.args.s.now c.args.at _ _ c.requires.0 c.requires.1
-          c.in-Refused.is (rw (part_is c.args.s.now c.args.at)
-          at c.take_selection.ensures),
-      tt,
-    )
+returns-in-Refused c = (
+  selection-not c.args.s.now c.args.at _ _ c.requires.0 c.requires.1
+      c.in-Refused.is (rw (part_is c.args.s.now c.args.at)
+      at c.take_selection.ensures),
+  tt,
+)

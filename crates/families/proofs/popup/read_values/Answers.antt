@@ -20,10 +20,9 @@ returns-in-Got c =
     (rw (part_is c.args.s.now c.args.at) at c.take_values.ensures))
 
 pub returns-in-Refused : goal.returns-in-Refused
-returns-in-Refused c =
-    (
-      values-not c.args.s.now c.args.at _ _ c.if-s-at.false
-          (values-refused c.args.s.now c.args.at _ _ c.in-Refused.is
-          (rw (part_is c.args.s.now c.args.at) at c.take_values.ensures)),
-      tt,
-    )
+returns-in-Refused c = (
+  values-not c.args.s.now c.args.at _ _ c.if-s-at.false
+      (values-refused c.args.s.now c.args.at _ _ c.in-Refused.is
+      (rw (part_is c.args.s.now c.args.at) at c.take_values.ensures)),
+  tt,
+)

@@ -13,12 +13,11 @@ returns-then-one-i c =
     c.loop-i-test.true c.loop-i.invariant.1 c.if-one-i.true
 
 pub loop-i-preserved : goal.loop-i-preserved
-loop-i-preserved c =
-    (
-      search rules,
-      same-on c.args.one.now c.args.other.now c.requires c.loop-i.i
-          c.loop-i-test.true c.loop-i.invariant.1 c.if-one-i.false,
-    )
+loop-i-preserved c = (
+  search rules,
+  same-on c.args.one.now c.args.other.now c.requires c.loop-i.i
+      c.loop-i-test.true c.loop-i.invariant.1 c.if-one-i.false,
+)
 
 pub returns : goal.returns
 returns c = same_ends c.args.one.now c.args.other.now c.requires
