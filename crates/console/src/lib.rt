@@ -177,7 +177,7 @@ fn taking(error: FillError) -> io::Error {
     }
 }
 
-// An argument that could not be taken: `PROGRAM: argument`, in one buffer.
+// An argument that could not be taken: `PROGRAM: argument`.
 fn fail_argument(rt: &HostRuntime, program: &[u8], name: &mut [u8], error: FillError) -> Input
     ensures { result ≡ Input.None }
 {
