@@ -4,7 +4,6 @@
 ghost use Rattle.commands.specs.Reading.{read_command};
 ghost use Rattle.images.specs.Word.{WritesOut};
 
-use codec::refusal::Outcome;
 use commands::DirectCommands;
 use images::word::{refused, written};
 
@@ -12,11 +11,8 @@ use images::word::{refused, written};
 pub extern "C" fn command_again(payload: &[u8], buffer: &mut [u8]) -> u32
     ensures { WritesOut (read_command payload.now) result buffer.old buffer.new }
 {
-    let answer = DirectCommands::from_bytes(payload);
-    let outcome = answer.outcome;
-    let command = answer.command;
-    match outcome {
-        Outcome::Accepted => written(command.to_bytes(buffer)),
-        Outcome::Refused(why) => refused(why),
+    match DirectCommands::from_bytes(payload) {
+        Ok(command) => written(command.to_bytes(buffer)),
+        Err(why) => refused(why),
     }
 }

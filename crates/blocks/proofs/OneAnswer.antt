@@ -1,5 +1,6 @@
 -- Any two answers that a public function's contract allows coincide. `Post` is the contract as the check reads it from the source, and no
 -- copy of it. Assumes nothing.
+use Rattle.std.specs.Prelude.{Option, Some, None, Result, Ok, Err}
 use Prim.Native.Nat.{ℕ}
 use mathlib.Core.Path.{◌≡◌, refl, ap, sym, ◌∙◌}
 use contract.Lifetimes.{Lfts}
@@ -11,12 +12,10 @@ use Rattle.codec.specs.Sheet.{Answer, got, refused}
 use Rattle.blocks.specs.Walk.{damage_number, Opening, opening, told_judged, Standing, standing, told_walked}
 use Rattle.blocks.specs.declared.Damage.{Damage}
 use Rattle.blocks.specs.declared.Damage.TheVariants.{NotABlock, BlockCheck, BlockLayout}
-use Rattle.blocks.specs.declared.Judged.{Judged}
-use Rattle.blocks.specs.declared.Judged.TheVariants.{Sound, Damaged}
-use Rattle.blocks.specs.declared.Walked.{Walked}
-use Rattle.blocks.specs.declared.Walked.TheVariants.{Record, Nothing}
-use Rattle.blocks.proofs.number.Reads as number
-use Rattle.blocks.proofs.number.Kinds as number-kinds
+use Rattle.blocks.specs.declared.Sound.{Sound}
+use Rattle.blocks.specs.declared.Record.{Record}
+use Rattle.blocks.proofs.U8FromDamage.from.Reads as number
+use Rattle.blocks.proofs.U8FromDamage.from.Kinds as number-kinds
 use Rattle.blocks.proofs.judge.Reads as judge
 use Rattle.blocks.proofs.judge.Kinds as judge-kinds
 use Rattle.blocks.proofs.record_at.Reads as record-at
@@ -31,23 +30,23 @@ damage_back NotABlock = refl
 damage_back BlockCheck = refl
 damage_back BlockLayout = refl
 
-judged_told : Answer Opening → Judged
-judged_told (got (opening n first)) = Sound n first
-judged_told (refused n p) = Damaged (damage_of n)
+judged_told : Answer Opening → Result Sound Damage
+judged_told (got (opening n first)) = Ok (record { number = n; first = first })
+judged_told (refused n p) = Err (damage_of n)
 
-judged-told : (x : Judged) → judged_told (told_judged x) ≡ x
+judged-told : (x : Result Sound Damage) → judged_told (told_judged x) ≡ x
 unfolding judged_told
-judged-told (Sound n first) = refl
-judged-told (Damaged d) = ap Damaged (damage_back d)
+judged-told (Ok s) = refl
+judged-told (Err d) = ap Err (damage_back d)
 
-walked_told : Answer Standing → Walked
-walked_told (got (standing n end next)) = Record n end next
-walked_told (refused n p) = Nothing
+walked_told : Answer Standing → Option Record
+walked_told (got (standing n end next)) = Some (record { number = n; end = end; next = next })
+walked_told (refused n p) = None
 
-walked-told : (x : Walked) → walked_told (told_walked x) ≡ x
+walked-told : (x : Option Record) → walked_told (told_walked x) ≡ x
 unfolding walked_told
-walked-told (Record n end next) = refl
-walked-told Nothing = refl
+walked-told (Some r) = refl
+walked-told None = refl
 
 pub number_one : (κs : Lfts 0) (a : Dens κs number-kinds.ps) (x y : (res_t number-kinds.r κs).Denot)
     (s t : AtExit (ended_of 0 number-kinds.ps number-kinds.r) κs)

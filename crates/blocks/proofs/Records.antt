@@ -5,17 +5,17 @@ use mathlib.Core.List.{List, [], ◌∷◌}
 use mathlib.Core.Path.{◌≡◌, refl, ap, sym, ◌∙◌}
 use native.Mathlib.Omega.{arith}
 use native.Mathlib.Numerals.{add-one}
-use borrow.Author.Tests.{lt-ltb, le-ltb, ltb-true, ltb-false, le-leb, lt-leb, leb-true, leb-false}
+use borrow.Author.Tests.{lt-ltb, le-ltb, ltb-true, ltb-false}
 use lib.ListN.{length, take, drop, get_or, length-drop}
 use lib.Seq.{take-nil, take-take, drop-cons, drop-drop, length-take-le}
-use lib.Dec.{ltb, leb}
+use lib.Dec.{ltb}
 use Rattle.codec.specs.Pick.{pick}
 use Rattle.codec.specs.Sheet.{Answer, got, refused, and_then}
 use Rattle.codec.specs.Refusals.{value_in}
 use Rattle.codec.proofs.There.{and_got}
 use Rattle.blocks.specs.Block.{used_count, Record, records_from, records_in}
 use Rattle.blocks.specs.Walk.{first_of, used_end, place_before, record_end, payload_in}
-use Rattle.blocks.specs.Steps.{used_end_or0, accepted, end_or0, records_to, whole_from}
+use Rattle.blocks.specs.Steps.{accepted, records_to, whole_from}
 
 -- ---- an answer that was got passed its tests
 pub met : {A : Type 0} (t : Bool) (a : Answer A) (n p : ℕ) (x : A) → pick t a (refused n p) ≡ got x → (t ≡ true) × (a ≡ got x)
@@ -138,37 +138,6 @@ ends b end at e h =
       fits = omega (arith, ltb-false end (at + (n + 1)) z.0);
     }
 
--- as the code tells it: 0 where no record stands there
-module _ (b : List ℕ) (end at n : ℕ) (e : n ≡ get_or b at 0) where
-  pub end_short : n < 4 → 0 ≡ end_or0 b end at
-  end_short h = rw (← e, lt-ltb n 4 h)
-
-  pub end_long : 4 ≤ n → 60 < n → 0 ≡ end_or0 b end at
-  end_long g h = rw (← e, le-ltb n 4 g, lt-ltb 60 n h)
-
-  pub end_beyond : 4 ≤ n → n ≤ 60 → end < at + (n + 1) → 0 ≡ end_or0 b end at
-  end_beyond g h l = rw (← e, le-ltb n 4 g, le-ltb 60 n h, lt-ltb end (at + (n + 1)) l)
-
-  pub end_there : 4 ≤ n → n ≤ 60 → at + (n + 1) ≤ end → at + (n + 1) ≡ end_or0 b end at
-  end_there g h l = rw (← e, le-ltb n 4 g, le-ltb 60 n h, le-ltb end (at + (n + 1)) l)
-
-pub end_none : (b : List ℕ) (end at : ℕ) → end_or0 b end at ≡ 0 → record_end b end at ≡ refused 10 0
-end_none b end at h = by (ltb (get_or b at 0) 4) (ltb 60 (get_or b at 0)) (ltb end (at + (get_or b at 0 + 1))) (at + (get_or b at 0 + 1)) (omega arith) h
-  where
-    by : (x y z : Bool) (e : ℕ) → 0 < e → value_in 0 (pick x (refused 10 0) (pick y (refused 10 0) (pick z (refused 10 0) (got e)))) ≡ 0
-        → pick x (refused 10 0) (pick y (refused 10 0) (pick z (refused 10 0) (got e))) ≡ refused 10 0
-    by true y z e l g = refl
-    by false true z e l g = refl
-    by false false true e l g = refl
-    by false false false e l g = absurd (omega arith)
-
-pub end_some : (b : List ℕ) (end at e : ℕ) → end_or0 b end at ≡ e → (e ≡ 0 → ⊥) → record_end b end at ≡ got e
-end_some b end at e h f = by (record_end b end at) h
-  where
-    by : (a : Answer ℕ) → value_in 0 a ≡ e → a ≡ got e
-    by (got x) g = ap got g
-    by (refused n p) g = absurd (f (sym g))
-
 -- ---- the loop over the records
 whole-next : (b : List ℕ) (end at : ℕ) → at < end → end ≤ length b
     → whole_from b end at ≡ accepted (and_then (record_end b end at) (behind b end at))
@@ -178,16 +147,16 @@ accepted_then : {A B : Type 0} (a : Answer A) (f : A → B) → accepted (and_th
 accepted_then (got x) f = refl
 accepted_then (refused n p) f = refl
 
-pub whole_turn : (b : List ℕ) (end at e : ℕ) → at < end → end ≤ length b → end_or0 b end at ≡ e → (e ≡ 0 → ⊥)
+pub whole_turn : (b : List ℕ) (end at e : ℕ) → at < end → end ≤ length b → record_end b end at ≡ got e
     → whole_from b end at ≡ whole_from b end e
-whole_turn b end at e h l g f =
+whole_turn b end at e h l g =
     whole-next b end at h l
-    ∙ ap (λ (a : Answer ℕ). accepted (and_then a (behind b end at))) (end_some b end at e g f)
+    ∙ ap (λ (a : Answer ℕ). accepted (and_then a (behind b end at))) g
     ∙ accepted_then (records_to b end e) (λ rs. record { place = at; payload = payload_in b at e } ∷ rs)
 
-pub whole-stops : (b : List ℕ) (end at : ℕ) → at < end → end ≤ length b → end_or0 b end at ≡ 0 → whole_from b end at ≡ false
+pub whole-stops : (b : List ℕ) (end at : ℕ) → at < end → end ≤ length b → record_end b end at ≡ refused 10 0 → whole_from b end at ≡ false
 whole-stops b end at h l g =
-    whole-next b end at h l ∙ ap (λ (a : Answer ℕ). accepted (and_then a (behind b end at))) (end_none b end at g)
+    whole-next b end at h l ∙ ap (λ (a : Answer ℕ). accepted (and_then a (behind b end at))) g
 
 pub whole-done : (b : List ℕ) (end at : ℕ) → end ≤ length b → end ≤ at → whole_from b end at ≡ true
 whole-done b end at l h = ap (λ (a : Answer (List Record)). accepted a) (records_none b end l at h)
@@ -216,32 +185,6 @@ ten (suc f) at (n ∷ s) h =
 -- ---- the used bytes: by their number, or up to their end
 pub used-part : (b : List ℕ) → records_to b (used_end b) 6 ≡ records_in b
 used-part b = let l : used_end b - 6 ≡ used_count b = omega arith in ap (λ (n : ℕ). records_from (suc n) 6 (take n (drop 6 b))) l
-
--- they fit into a block, and end there
-abbrev pub Used : List ℕ → ℕ → Type 0
-Used b end = (used_count b ≤ 505) × (end ≡ used_end b)
-
--- as the code tells it: 0 where they are too many
-module _ (b : List ℕ) (u : ℕ) (e : u ≡ used_count b) where
-  pub used_none : 505 < u → 0 ≡ used_end_or0 b
-  used_none h = rw (← e, lt-leb u 505 h)
-
-  pub used-some : u ≤ 505 → 6 + u ≡ used_end_or0 b
-  used-some h = rw (← e, le-leb u 505 h)
-
-pub used_over : (b : List ℕ) (end : ℕ) → end ≡ used_end_or0 b → end ≡ 0 → 505 < used_count b
-used_over b end e z = by (leb (used_count b) 505) refl (sym e ∙ z)
-  where
-    by : (t : Bool) → leb (used_count b) 505 ≡ t → pick t (used_end b) 0 ≡ 0 → 505 < used_count b
-    by true g h = absurd (omega arith)
-    by false g h = leb-false (used_count b) 505 g
-
-pub used-fits : (b : List ℕ) (end : ℕ) → end ≡ used_end_or0 b → (end ≡ 0 → ⊥) → Used b end
-used-fits b end e some = by (leb (used_count b) 505) refl e
-  where
-    by : (t : Bool) → leb (used_count b) 505 ≡ t → end ≡ pick t (used_end b) 0 → Used b end
-    by true g h = (leb-true (used_count b) 505 g, h)
-    by false g h = absurd (some h)
 
 -- ---- the first of them stands at the place, if there is any
 pub first_is : (b : List ℕ) (end at : ℕ) (rs : List Record) → end ≤ length b → records_to b end at ≡ got rs → first_of rs ≡ place_before end at

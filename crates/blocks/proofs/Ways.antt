@@ -1,20 +1,33 @@
 -- The ways through `record_at` and `judge`: each ends as the definition does. Assumes nothing.
+use Rattle.std.specs.Prelude.{Option, Some, None, Result, Ok, Err}
+use Rattle.std.specs.Result.{result_unwrap_or}
+use Rattle.std.specs.Option.{ok_or}
 use Prim.Native.Nat.{ℕ, suc, ◌-◌, ◌<◌, ◌≤◌}
 use mathlib.Core.Bool.{true, false}
 use mathlib.Core.List.{List}
-use mathlib.Core.Path.{◌≡◌, sym, ◌∙◌}
+use mathlib.Core.Path.{◌≡◌, refl, sym, ◌∙◌}
 use native.Mathlib.Omega.{arith}
 use borrow.Author.Tests.{le-ltb, lt-ltb, le-leb, lt-leb, eq-eqb, ne_eqb}
 use lib.ListN.{length, take, drop}
-use Rattle.crc.specs.Check.{command_polynomial, check_from}
+use Rattle.crc.specs.Check.{Bytes, command_polynomial, check_from}
 use Rattle.crc.proofs.Laws.{from_zero}
 use Rattle.codec.specs.Pick.{pick}
-use Rattle.codec.specs.Sheet.{Answer, got, refused, and_then}
+use Rattle.codec.specs.Sheet.{Answer, got, refused, and_then, number}
+use Rattle.codec.specs.Reading.{read_item}
+use Rattle.codec.specs.Told.{told_number}
+use Rattle.codec.specs.declared.refusal.Refusal.{Refusal}
+use Rattle.codec.proofs.Numbers.{number-got, number-not}
 use Rattle.families.specs.Text.{zeros}
 use Rattle.blocks.specs.Block.{block_number, used_count, check_byte, block_check, Record, records_of}
 use Rattle.blocks.specs.Walk.{first_of, Opening, opening, opening_of, standing, place_before, record_end, record_at}
-use Rattle.blocks.specs.Steps.{end_or0, records_to, whole_records}
-use Rattle.blocks.proofs.Records.{drop-take, end_none, accepted-got, ten, Used, used-part, first_is}
+use Rattle.blocks.specs.Steps.{Used, UsedTo, records_to, whole_records}
+use Rattle.blocks.proofs.Records.{drop-take, accepted-got, ten, used-part, first_is}
+
+-- ---- any four bytes are a block's number
+pub number_is : (b : List ℕ) → length b ≡ 512 → Bytes b → (r : Result ℕ Refusal) → told_number r ≡ read_item (number 4 0 4294967295) (drop 0 b)
+    → result_unwrap_or r 0 ≡ block_number b
+number_is b size o (Ok n) h = number-got 4 4294967295 b 0 o (omega arith) (omega arith) n (Ok n) refl h
+number_is b size o (Err why) h = absurd (number-not 4 4294967295 b 0 o (omega arith) (omega arith) (Err why) why refl h)
 
 -- ---- `record_at`
 module _ (b : List ℕ) (at : ℕ) where
@@ -38,7 +51,7 @@ module _ (b : List ℕ) (at : ℕ) where
         at-behind h = rw (eq-eqb (length b) 512 size, le-leb (used_count b) 505 used.0, le-ltb at 6 first, ← used.1, le-leb end at h)
 
         module _ (last : at < end) where
-          pub at_none : end_or0 b end at ≡ 0 → refused 10 0 ≡ record_at b at
+          pub at_none : record_end b end at ≡ refused 10 0 → refused 10 0 ≡ record_at b at
           unfolding record_at
           at_none h =
               rw (
@@ -47,7 +60,7 @@ module _ (b : List ℕ) (at : ℕ) where
                 le-ltb at 6 first,
                 ← used.1,
                 lt-leb end at last,
-                end_none b end at h,
+                h,
               )
 
           pub at_there : (n e x : ℕ) → n ≡ block_number b → record_end b end at ≡ got e → x ≡ place_before end e
@@ -57,6 +70,15 @@ module _ (b : List ℕ) (at : ℕ) where
               rw (eq-eqb (length b) 512 size, le-leb (used_count b) 505 used.0, le-ltb at 6 first, ← used.1, lt-leb end at last, j, i, k)
 
 -- ---- `judge`
+-- an end that a `?` lets through, and none
+pub used_ok : {D : Type 0} (b : List ℕ) (o : Option ℕ) (d : D) (end : ℕ) → UsedTo b o → Ok end ≡ ok_or o d → Used b end
+used_ok b (Some e) d end u h = let same : e ≡ end = cc in (u.0, sym same ∙ u.1)
+used_ok b None d end u h = let z : ◌≡◌ {A = ℕ} 0 1 = cc in absurd (omega arith)
+
+pub used_err : {D : Type 0} (b : List ℕ) (o : Option ℕ) (d e : D) → UsedTo b o → Err e ≡ ok_or o d → (505 < used_count b) × (e ≡ d)
+used_err b (Some n) d e u h = let z : ◌≡◌ {A = ℕ} 0 1 = cc in absurd (omega arith)
+used_err b None d e u h = (u, cc)
+
 abbrev opened : List ℕ → Answer (List Record) → Answer Opening
 opened b a = and_then a (λ rs. got (opening (block_number b) (first_of rs)))
 

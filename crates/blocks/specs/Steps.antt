@@ -1,16 +1,20 @@
 -- For the contracts of private functions; nobody has to believe this file. Assumes nothing.
-use Rattle.std.specs.Prelude.{ℕ, suc, ◌-◌, Bool, true, false, List, take, drop, leb}
-use Rattle.codec.specs.Pick.{pick}
+use Rattle.std.specs.Prelude.{Option, Some, None, ℕ, suc, ◌-◌, ◌≤◌, ◌<◌, ◌≡◌, Bool, true, false, List, take, drop}
 use Rattle.codec.specs.Sheet.{Answer, got, refused}
-use Rattle.codec.specs.Refusals.{value_in}
 use Rattle.blocks.specs.Block.{used_count, most_used, Record, first_place, records_from}
 use Rattle.blocks.specs.Walk.{used_end, record_end}
 
-abbrev pub used_end_or0 : List ℕ → ℕ
-used_end_or0 b = pick (leb (used_count b) most_used) (used_end b) 0
+-- bytes used in a block that end there: no more than it has room for
+abbrev pub Used : List ℕ → ℕ → Type 0
+Used b end = (used_count b ≤ most_used) × (end ≡ used_end b)
 
-abbrev pub end_or0 : List ℕ → ℕ → ℕ → ℕ
-end_or0 b end at = value_in 0 (record_end b end at)
+abbrev pub UsedTo : List ℕ → Option ℕ → Type 0
+UsedTo b (Some end) = Used b end
+UsedTo b None = most_used < used_count b
+
+abbrev pub EndsAt : List ℕ → ℕ → ℕ → Option ℕ → Type 0
+EndsAt b end at (Some e) = record_end b end at ≡ got e
+EndsAt b end at None = record_end b end at ≡ refused 10 0
 
 abbrev pub accepted : {A : Type 0} → Answer A → Bool
 accepted (got a) = true

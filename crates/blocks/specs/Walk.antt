@@ -1,14 +1,12 @@
 -- The records of a block as a walk from place to place, without its check. Assumes nothing.
-use Rattle.std.specs.Prelude.{ℕ, ◌+◌, ◌-◌, List, [], ◌∷◌, length, take, drop, get_or, ltb, leb, eqb}
+use Rattle.std.specs.Prelude.{Option, Some, None, Result, Ok, Err, ℕ, ◌+◌, ◌-◌, List, [], ◌∷◌, length, take, drop, get_or, ltb, leb, eqb}
 use Rattle.codec.specs.Pick.{pick}
 use Rattle.codec.specs.Sheet.{Answer, got, refused, and_then}
 use Rattle.blocks.specs.Block.{block_size, block_number, used_count, most_used, first_place, Record, records_of}
 use Rattle.blocks.specs.declared.Damage.{Damage}
 use Rattle.blocks.specs.declared.Damage.TheVariants.{NotABlock, BlockCheck, BlockLayout}
-use Rattle.blocks.specs.declared.Judged.{Judged}
-use Rattle.blocks.specs.declared.Judged.TheVariants.{Sound, Damaged}
-use Rattle.blocks.specs.declared.Walked.{Walked}
-use Rattle.blocks.specs.declared.Walked.TheVariants.{Record as Stands, Nothing}
+use Rattle.blocks.specs.declared.Sound.{Sound}
+use Rattle.blocks.specs.declared.Record.{Record as Found}
 
 -- "1 for a block that isn't 512 bytes, then 9 block check, then 10 block layout"
 abbrev pub damage_number : Damage → ℕ
@@ -28,9 +26,9 @@ pub data Opening : Type 0 where
 abbrev pub opening_of : List ℕ → Answer Opening
 opening_of b = and_then (records_of b) (λ rs. got (opening (block_number b) (first_of rs)))
 
-abbrev pub told_judged : Judged → Answer Opening
-told_judged (Sound number first) = got (opening number first)
-told_judged (Damaged d) = refused (damage_number d) 0
+abbrev pub told_judged : Result Sound Damage → Answer Opening
+told_judged (Ok s) = got (opening s.number s.first)
+told_judged (Err d) = refused (damage_number d) 0
 
 -- a record that stands at a place: the number of its block, the place behind its payload, that of the next record, 0 behind the last
 pub data Standing : Type 0 where
@@ -67,6 +65,6 @@ record_at b at =
 abbrev pub payload_in : List ℕ → ℕ → ℕ → List ℕ
 payload_in b at end = take (end - (at + 1)) (drop (at + 1) b)
 
-abbrev pub told_walked : Walked → Answer Standing
-told_walked (Stands number end next) = got (standing number end next)
-told_walked Nothing = refused 10 0
+abbrev pub told_walked : Option Found → Answer Standing
+told_walked (Some r) = got (standing r.number r.end r.next)
+told_walked None = refused 10 0

@@ -4,9 +4,9 @@
 ghost use Rattle.std.specs.Prelude.{◌≡◌, ◌≤◌, ◌<◌, length};
 ghost use Rattle.blocks.specs.Block.{block_number};
 ghost use Rattle.blocks.specs.Walk.{damage_number, opening_of, told_judged, place_before, record_at, told_walked};
-ghost use Rattle.blocks.specs.Steps.{used_end_or0, end_or0, whole_records};
+ghost use Rattle.blocks.specs.Steps.{UsedTo, EndsAt, whole_records};
 
-use codec::reader::{NumberRead, Width};
+use codec::reader::Width;
 
 // "blocks of 512 bytes"
 pub const BLOCK_SIZE: usize = 512;
@@ -34,31 +34,32 @@ pub enum Damage {
     BlockLayout,
 }
 
-// A sound block's number, and the place of its first record's length byte, 0 where it has none.
+// A sound block's number, and the place of its first record's length byte. The place goes into the replay's state as it is, whose image
+// (include/crsf.h) is fixed with 0 for none: so it is 0, and no None, where the block has no record.
 #[derive(Clone, Copy)]
-pub enum Judged {
-    Sound { number: u32, first: usize },
-    Damaged(Damage),
+pub struct Sound {
+    pub number: u32,
+    pub first: usize,
 }
 
-// A record's block number, the place behind its payload, and that of the next record's length byte, 0 behind the last.
+// A record's block number, the place behind its payload, and that of the next record's length byte, as in the replay's image 0 behind the
+// last.
 #[derive(Clone, Copy)]
-pub enum Walked {
-    Record {
-        number: u32,
-        end: usize,
-        next: usize,
-    },
-    Nothing,
+pub struct Record {
+    pub number: u32,
+    pub end: usize,
+    pub next: usize,
 }
 
-pub fn number(damage: Damage) -> u8
-    ensures { result ≡ damage_number damage }
-{
-    match damage {
-        Damage::NotABlock => 1,
-        Damage::BlockCheck => 9,
-        Damage::BlockLayout => 10,
+impl From<Damage> for u8 {
+    ghost from_gives = { λ damage number. number ≡ damage_number damage };
+
+    fn from(damage: Damage) -> u8 {
+        match damage {
+            Damage::NotABlock => 1,
+            Damage::BlockCheck => 9,
+            Damage::BlockLayout => 10,
+        }
     }
 }
 
@@ -66,56 +67,41 @@ fn block_number(block: &[u8]) -> u32
     requires { length block.now ≡ 512 }
     ensures { result ≡ block_number block.now }
 {
-    match codec::reader::read_number(block, 0, Width::Four, 0, u32::MAX) {
-        NumberRead::Got(number) => number,
-        NumberRead::Refused(_) => 0,
-    }
+    codec::reader::read_number(block, 0, Width::Four, 0, u32::MAX).unwrap_or(0)
 }
 
-// Where the used bytes end; 0 where they are more than a block has room for.
-fn used_end(block: &[u8]) -> usize
+// Where the used bytes end, where they are no more than a block has room for.
+fn used_end(block: &[u8]) -> Option<usize>
     requires { length block.now ≡ 512 }
-    ensures { (result ≡ used_end_or0 block.now) × (result ≤ 511) }
+    ensures { UsedTo block.now result }
 {
-    let used = match codec::reader::read_word(block, USED_COUNT) {
-        NumberRead::Got(count) => count as usize,
-        NumberRead::Refused(_) => return 0,
+    let Ok(count) = codec::reader::read_word(block, USED_COUNT) else {
+        return None;
     };
+    let used = count as usize;
     if MAX_USED < used {
-        return 0;
+        return None;
     }
-    FIRST_RECORD + used
+    Some(FIRST_RECORD + used)
 }
 
-// A place within bytes that end there, or 0.
+// A place within bytes that end there, or 0, as the replay's state has it.
 fn place_before(end: usize, at: usize) -> usize
     ensures { result ≡ place_before end at }
 {
     if at < end { at } else { 0 }
 }
 
-fn wide(byte: u8) -> usize
-    ensures { (result ≡ byte) × (result ≤ 255) }
-{
-    byte as usize
-}
-
-// Where the payload behind a length byte ends, within used bytes that end at `end`; 0 where no record stands there.
-fn record_end(block: &[u8], end: usize, at: usize) -> usize
+// Where the payload behind a length byte ends, within used bytes that end at `end`.
+fn record_end(block: &[u8], end: usize, at: usize) -> Option<usize>
     requires { (at < end) × (end ≤ length block.now) }
-    ensures { result ≡ end_or0 block.now end at }
+    ensures { EndsAt block.now end at result }
 {
-    let len = wide(block[at]);
-    if len < MIN_RECORD {
-        return 0;
+    let len = block[at] as usize;
+    if len < MIN_RECORD || MAX_RECORD < len || end - at <= len {
+        return None;
     }
-    if MAX_RECORD < len {
-        return 0;
-    }
-    if end - at <= len {
-        return 0;
-    }
-    at + (len + 1)
+    Some(at + len + 1)
 }
 
 // Whether the used bytes, up to `end`, are records one behind the other.
@@ -123,66 +109,52 @@ fn whole_records(block: &[u8], end: usize) -> bool
     requires { end ≤ length block.now }
     ensures { result ≡ whole_records block.now end }
 {
+    // A record's length byte says where the next one stands: no index is counted, and no `for` has it.
     let mut at = FIRST_RECORD;
     while at < end {
-        at = record_end(block, end, at);
-        if at == 0 {
+        let Some(next) = record_end(block, end, at) else {
             return false;
-        }
+        };
+        at = next;
     }
     true
 }
 
 // Sound, or the number that refuses it, in document 02's order.
-pub fn judge(block: &[u8]) -> Judged
+pub fn judge(block: &[u8]) -> Result<Sound, Damage>
     ensures { told_judged result ≡ opening_of block.now }
 {
     if block.len() != BLOCK_SIZE {
-        return Judged::Damaged(Damage::NotABlock);
+        return Err(Damage::NotABlock);
     }
     if block[CHECK] != crc::check(&block[..CHECK], 0) {
-        return Judged::Damaged(Damage::BlockCheck);
+        return Err(Damage::BlockCheck);
     }
-    let end = used_end(block);
-    if end == 0 {
-        return Judged::Damaged(Damage::BlockLayout);
+    let end = used_end(block).ok_or(Damage::BlockLayout)?;
+    if !whole_records(block, end) || !families::text::all_zero(&block[end..CHECK]) {
+        return Err(Damage::BlockLayout);
     }
-    if !whole_records(block, end) {
-        return Judged::Damaged(Damage::BlockLayout);
-    }
-    if !families::text::all_zero(&block[end..CHECK]) {
-        return Judged::Damaged(Damage::BlockLayout);
-    }
-    Judged::Sound {
+    Ok(Sound {
         number: block_number(block),
         first: place_before(end, FIRST_RECORD),
-    }
+    })
 }
 
 // The record at a place, of a block that is not judged again.
-pub fn record_at(block: &[u8], at: usize) -> Walked
+pub fn record_at(block: &[u8], at: usize) -> Option<Record>
     ensures { told_walked result ≡ record_at block.now at }
 {
     if block.len() != BLOCK_SIZE {
-        return Walked::Nothing;
+        return None;
     }
-    let used_end = used_end(block);
-    if used_end == 0 {
-        return Walked::Nothing;
+    let used_end = used_end(block)?;
+    if at < FIRST_RECORD || used_end <= at {
+        return None;
     }
-    if at < FIRST_RECORD {
-        return Walked::Nothing;
-    }
-    if used_end <= at {
-        return Walked::Nothing;
-    }
-    let end = record_end(block, used_end, at);
-    if end == 0 {
-        return Walked::Nothing;
-    }
-    Walked::Record {
+    let end = record_end(block, used_end, at)?;
+    Some(Record {
         number: block_number(block),
         end,
         next: place_before(used_end, end),
-    }
+    })
 }

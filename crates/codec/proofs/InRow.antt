@@ -1,6 +1,8 @@
 -- Items taken one after the other, and judged in their order, are the items read. Assumes nothing.
 --     Taken            items that were taken in a row from the front of some bytes, with what each answered
 --     taken_reads      their answers in turn are what reading the items gives
+--     item_got         the items behind one that was taken are read from the bytes still to come
+--     item_not         one that was refused ends them
 --     body_taken       a sub-command taken, and its row's items read from the bytes still to come: the body read
 use Prim.Native.Nat.{ℕ, ◌+◌}
 use mathlib.Core.Path.{◌≡◌, refl, ap, sym, ◌∙◌}
@@ -55,6 +57,14 @@ taken_reads (after {i} {is} {a} {more} {s} {s'} t f u) =
     next-reads i is a (in_turn more) s s' f (taken_reads u)
     ∙ ap (λ (x : Answer (List ℕ)). and_then x (λ v. and_then (read_items is s (0 + size_of i v)) (λ vs. got (v ∷ vs))))
     t
+
+pub item_got : (i : Item) (is : List Item) (v s s' : List ℕ) → Takes i (got v) s s' → read_items (i ∷ is) s 0 ≡ and_then (read_items is s' 0) (λ vs. got (v ∷ vs))
+item_got i is v s s' t =
+    ap (λ (x : Answer (List ℕ)). and_then x (λ w. and_then (read_items is s (0 + size_of i w)) (λ vs. got (w ∷ vs)))) (sym t.0)
+    ∙ sym (next-reads i is (got v) (read_items is s' 0) s s' (λ w e. t.1 ∙ ap (λ (x : Answer (List ℕ)). behind_item i x s) e) refl)
+
+pub item_not : (i : Item) (is : List Item) (n p : ℕ) (s : List ℕ) → refused n p ≡ read_item i s → read_items (i ∷ is) s 0 ≡ refused n p
+item_not i is n p s e = ap (λ (x : Answer (List ℕ)). and_then x (λ w. and_then (read_items is s (0 + size_of i w)) (λ vs. got (w ∷ vs)))) (sym e)
 
 row-behind : (rs : List Row) (s : List ℕ) (sub : ℕ) → read_behind rs (drop 1 s) sub ≡ read_row rs s sub
 row-behind [] s sub = refl

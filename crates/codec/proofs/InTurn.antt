@@ -1,4 +1,5 @@
 -- A body whose items are judged in turn, each by `values_first`, and then put. Assumes nothing.
+use Rattle.std.specs.Prelude.{Ok, Err}
 use Prim.Native.Nat.{ℕ, zero, suc, ◌+◌, ◌<◌, ◌≤◌}
 use mathlib.Core.Bool.{Bool, true, false}
 use mathlib.Core.List.{List, [], ◌∷◌, ◌++◌}
@@ -15,7 +16,6 @@ use Rattle.codec.specs.Writing.{ok_item, items_of, write_items, write_body, coun
 use Rattle.codec.specs.Refusals.{refusal_number}
 use Rattle.codec.specs.Told.{Writes, WritesInOrder}
 use Rattle.codec.specs.declared.refusal.Refusal.{Refusal}
-use Rattle.codec.specs.declared.writer.Written.TheVariants.{Count, Refused as RefusedWrite}
 use Rattle.codec.proofs.Items.{alone, ltb-zero}
 use Rattle.codec.proofs.Stops.{room_again}
 use Rattle.codec.proofs.Writes.{refusal_some, writes-count, writes-refused}
@@ -25,10 +25,10 @@ counted-some zero n h = absurd (omega arith)
 counted-some (suc k) n h = refl
 
 -- a writer's two ends, by the number that stops it
-pub writes-stop : (stop : ℕ) (w s : List ℕ) (r : Refusal) → stop ≡ refusal_number r → Writes stop w (RefusedWrite r) s s
+pub writes-stop : (stop : ℕ) (w s : List ℕ) (r : Refusal) → stop ≡ refusal_number r → Writes stop w (Err r) s s
 writes-stop stop w s r e = writes-refused stop w s r (rw e (sym (counted-some (refusal_number r) (length w) (refusal_some r))))
 
-pub writes-all : (stop n : ℕ) (w s s' : List ℕ) → stop ≡ 0 → n ≡ length w → s' ≡ sets s 0 w → Writes stop w (Count n) s s'
+pub writes-all : (stop n : ℕ) (w s s' : List ℕ) → stop ≡ 0 → n ≡ length w → s' ≡ sets s 0 w → Writes stop w (Ok n) s s'
 writes-all stop n w s s' e f g = writes-count stop n w s s' (rw (e, f)) g
 
 -- an item that `values_first` refuses stops the whole; else what follows decides
@@ -61,7 +61,7 @@ values_one rs sub room n i v e f = rw (f, e) (by (ok_item i v) (ltb room n))
 
 pub values-not : (rs : List Row) (sub n : ℕ) (i : Item) (v : List ℕ) (o : Bool) (s : List ℕ) (r : Refusal) → items_of rs sub ≡ i ∷ []
     → length (write_body rs (said sub (v ∷ []))) ≡ n → o ≡ ok_item i v → refused (refusal_number r) 0 ≡ counted (pick o (stop_room (length s) n) 2) n
-    → Writes (stop_values_first rs (length s) (said sub (v ∷ []))) (write_body rs (said sub (v ∷ []))) (RefusedWrite r) s s
+    → Writes (stop_values_first rs (length s) (said sub (v ∷ []))) (write_body rs (said sub (v ∷ []))) (Err r) s s
 values-not rs sub n i v o s r e f g h =
     writes-stop (stop_values_first rs (length s) (said sub (v ∷ []))) (write_body rs (said sub (v ∷ []))) s r
     (values_one rs sub (length s) n i v e f ∙ item-stops (ok_item i v) (length s) n 0 r (rw g at h))
@@ -69,7 +69,7 @@ values-not rs sub n i v o s r e f g h =
 pub values-all : (rs : List Row) (sub n m : ℕ) (i : Item) (v : List ℕ) (o : Bool) (s s' : List ℕ) → items_of rs sub ≡ i ∷ []
     → length (write_body rs (said sub (v ∷ []))) ≡ n → o ≡ ok_item i v → got m ≡ counted (pick o (stop_room (length s) n) 2) n
     → s' ≡ sets s 0 (write_body rs (said sub (v ∷ [])))
-    → Writes (stop_values_first rs (length s) (said sub (v ∷ []))) (write_body rs (said sub (v ∷ []))) (Count m) s s'
+    → Writes (stop_values_first rs (length s) (said sub (v ∷ []))) (write_body rs (said sub (v ∷ []))) (Ok m) s s'
 values-all rs sub n m i v o s s' e f g h p =
     let k = item-goes (ok_item i v) (length s) n 0 m (rw g at h) in
     writes-all (stop_values_first rs (length s) (said sub (v ∷ []))) m (write_body rs (said sub (v ∷ []))) s s'
@@ -102,7 +102,7 @@ timed_stop rs room sub t is vs e h =
 
 pub timed_all : (rs : List Row) (sub t n : ℕ) (is : List Item) (vs : List (List ℕ)) (s s' : List ℕ) → items_of rs sub ≡ word ∷ is
     → stop_in_order rs (length s) (said sub ((t ∷ []) ∷ vs)) ≡ 0 → n ≡ 3 + length (write_items is vs)
-    → s' ≡ sets s 0 (sub ∷ (bytes_of 2 t ++ write_items is vs)) → WritesInOrder rs (said sub ((t ∷ []) ∷ vs)) (Count n) s s'
+    → s' ≡ sets s 0 (sub ∷ (bytes_of 2 t ++ write_items is vs)) → WritesInOrder rs (said sub ((t ∷ []) ∷ vs)) (Ok n) s s'
 timed_all rs sub t n is vs s s' e g f p =
     let w : write_body rs (said sub ((t ∷ []) ∷ vs)) ≡ sub ∷ (bytes_of 2 t ++ write_items is vs) = rw (e, alone t) in
     let k : length (write_body rs (said sub ((t ∷ []) ∷ vs))) ≡ 3 + length (write_items is vs) = ap length w ∙ omega arith in

@@ -12,11 +12,7 @@ use Rattle.codec.proofs.Writes.{test_true, test_false}
 use Rattle.codec.specs.Pick.{pick}
 use Rattle.codec.specs.Digits.{split, number_of}
 use Rattle.codec.specs.Sheet.{Field, field, packed, widths, Answer, got, refused, number}
-use Rattle.codec.specs.Refusals.{refusal_number}
-use Rattle.codec.specs.Told.{told_number, at_most, bit}
-use Rattle.codec.specs.declared.refusal.Refusal.{Refusal}
-use Rattle.codec.specs.declared.reader.NumberRead.{NumberRead}
-use Rattle.codec.specs.declared.reader.NumberRead.TheVariants.{Got, Refused}
+use Rattle.codec.specs.Told.{bit}
 use Rattle.codec.specs.Reading.{within, read_item}
 
 pub item-short : (w : ℕ) (fs : List Field) (s : List ℕ) (at : ℕ) → 0 < w → length s < at + w → read_item (packed w fs) (drop at s) ≡ refused 1 0
@@ -67,11 +63,3 @@ number-there w lo hi s at n x t h e f g =
 pub flag-bit : (n : ℕ) → n ≤ 1 → bit (eqb n 1) ≡ n
 flag-bit zero h = refl
 flag-bit (suc n) h = let e : n ≡ 0 = omega arith in rw e
-
-pub flag-got : (r : NumberRead) (a : Answer (List ℕ)) (n : ℕ) → r ≡ Got n → (told_number r ≡ a) × at_most 1 r → got (bit (eqb n 1) ∷ []) ≡ a
-flag-got r a n e h =
-    let k : n ≤ 1 = rw e at h.1 in
-    rw (flag-bit n k) (rw e at h.0)
-
-pub flag-not : (r : NumberRead) (a : Answer (List ℕ)) (k : Refusal) → r ≡ Refused k → told_number r ≡ a → refused (refusal_number k) 0 ≡ a
-flag-not r a k e h = rw e at h

@@ -14,7 +14,6 @@ pub mod Writes
 pub mod Packed
 pub mod InTurn
 pub mod InRow
-pub mod Unpacked
 pub mod OneAnswer
 pub mod Refused
 pub mod TextRange

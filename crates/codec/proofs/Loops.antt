@@ -1,14 +1,14 @@
 -- What the loops' turns cite. Assumes nothing.
-use Prim.Native.Nat.{ℕ, suc, ◌+◌, ◌-◌, ◌*◌, ◌/◌, ◌%◌, ◌^◌, ◌<◌, ◌≤◌}
+use Prim.Native.Nat.{ℕ, suc, ◌+◌, ◌*◌, ◌/◌, ◌%◌, ◌^◌, ◌<◌, ◌≤◌}
 use mathlib.Core.List.{List, [], ◌∷◌, ◌++◌}
 use mathlib.Core.Path.{◌≡◌, refl, ap, ◌∙◌}
 use native.Mathlib.Omega.{arith}
 use native.Mathlib.Numerals.{add-one}
 use native.Mathlib.Nat.{mul_assoc}
 use lib.Arith.{digits_lt}
-use lib.Pow.{pow-add, pow_mono, shr-shr}
-use lib.ListN.{length, take, drop, get_or, set, replicate, length-append, length-drop}
-use lib.Seq.{sets, length-sets, set_comm, take-suc, take_all, length-take-le, get_or-drop}
+use lib.Pow.{pow-add, pow_mono}
+use lib.ListN.{length, take, get_or, set, replicate, length-append}
+use lib.Seq.{sets, length-sets, set_comm, take-suc}
 use Rattle.codec.specs.Digits.{sum, number_of, bytes_of}
 use Rattle.codec.proofs.Digits.{sum_eights}
 
@@ -23,11 +23,9 @@ number_snoc (y ∷ xs) x =
     rw (sum_eights, l, e, ← mul_assoc, sum_eights) in
     omega (arith, h, number_snoc xs x)
 
-pub number_turn : (s : List ℕ) (at i n : ℕ) → at + i < length s → n ≡ number_of (take i (drop at s))
-    → n * 256 + get_or s (at + i) 0 ≡ number_of (take (i + 1) (drop at s))
-number_turn s at i n h e =
-    let l : i < length (drop at s) = rw length-drop (omega arith) in
-    rw (add-one, take-suc (drop at s) i 0 l, number_snoc, get_or-drop, e)
+pub number_turn : (s : List ℕ) (i n : ℕ) → i < length s → n ≡ number_of (take i s)
+    → n * 256 + get_or s i 0 ≡ number_of (take (i + 1) s)
+number_turn s i n h e = rw (add-one, take-suc s i 0 h, number_snoc, e)
 
 pub small : (n i : ℕ) → n < 2 ^ (8 * i) → i ≤ 4 → n < 4294967296
 small n i h l = let p : 2 ^ (8 * i) ≤ 2 ^ 32 = pow_mono {j = 32} (omega arith) in omega arith
@@ -50,24 +48,5 @@ pub sets_append : (a b l : List ℕ) (i : ℕ) → sets l i (a ++ b) ≡ sets (s
 sets_append [] b l i = let e : i + 0 ≡ i = omega arith in rw e
 sets_append (x ∷ a) b l i = let e : suc i + length a ≡ i + suc (length a) = omega arith in rw (sets_append a b (set l i x) (suc i), e)
 
--- the turn of a loop that stores the bytes from the last to the first
-pub put_back : (l : List ℕ) (at w n i x : ℕ) (s : List ℕ) → 0 < i → i ≤ w → x ≡ n / 2 ^ (8 * (w - i)) → s ≡ sets l (at + i) (bytes_of (w - i) n)
-    → (i - 1 ≤ w) × ((x / 256 ≡ n / 2 ^ (8 * (w - (i - 1)))) × (set s (at + (i - 1)) (x % 256) ≡ sets l (at + (i - 1)) (bytes_of (w - (i - 1)) n)))
-put_back l at w n i x s p q e f =
-    let j = w - i in
-    let g : w - (i - 1) ≡ suc j = omega arith in
-    let h : at + i ≡ suc (at + (i - 1)) = omega arith in
-    let k : 8 * suc j ≡ 8 * j + 8 = omega arith in
-    (omega arith, (rw (g, k, e) (shr-shr n (8 * j) 8), rw (g, f, e, h) (put_turn l (at + (i - 1)) j n)))
-
 pub kept : (l vs : List ℕ) (i : ℕ) {s : List ℕ} → s ≡ sets l i vs → length s ≡ length l
 kept l vs i e = ap length e ∙ length-sets l i vs
-
--- one byte more behind
-pub put-more : (l s t : List ℕ) (at i : ℕ) → i < length t → s ≡ sets l at (take i t) → set s (at + i) (get_or t i 0) ≡ sets l at (take (i + 1) t)
-put-more l s t at i h e =
-    let k : length (take i t) ≡ i = length-take-le i t (omega arith) in
-    rw (add-one i, take-suc t i 0 h, sets_append (take i t) (get_or t i 0 ∷ []) l at, k, e)
-
-pub put_all : (l s t : List ℕ) (at i : ℕ) → length t ≤ i → s ≡ sets l at (take i t) → s ≡ sets l at t
-put_all l s t at i h e = rw (← (take_all i t h)) e

@@ -1,5 +1,7 @@
 -- Any two answers that a public function's contract allows coincide, and so do the bytes that it leaves in a lent slice. `Post` is
 -- the contract as the check reads it from the source, and no copy of it. Assumes nothing.
+use Rattle.std.specs.Prelude.{Result, Ok, Err, Bool}
+use Rattle.codec.specs.declared.refusal.Refusal.{Refusal}
 use Prim.Native.Nat.{ℕ, ◌+◌, ◌<◌}
 use mathlib.Core.List.{List}
 use mathlib.Core.Path.{◌≡◌, refl, sym, ap, ◌∙◌}
@@ -22,15 +24,11 @@ use Rattle.codec.specs.Sheet.{Item, Answer, got, refused}
 use Rattle.codec.specs.Reading.{read_item}
 use Rattle.codec.specs.Told.{told_number, told_flag, told_text, text_in, told_written}
 use Rattle.codec.specs.Taking.{behind_item}
-use Rattle.codec.specs.declared.reader.NumberRead.{NumberRead}
-use Rattle.codec.specs.declared.reader.FlagRead.{FlagRead}
 use Rattle.codec.specs.declared.reader.TextRead.{TextRead}
-use Rattle.codec.specs.declared.reader.TextRead.TheVariants.{Got, Refused}
 use Rattle.codec.specs.declared.reader.Reader.{Reader}
-use Rattle.codec.specs.declared.writer.Written.{Written}
 use Rattle.codec.proofs.Writes.{refusal_of, refusal_back, number_told, number-told, flag_told, flag-told, written_told, written-told, written_fixed}
-use Rattle.codec.proofs.refusal.number.Reads as number
-use Rattle.codec.proofs.refusal.number.Kinds as number-kinds
+use Rattle.codec.proofs.refusal.U8FromRefusal.from.Reads as number
+use Rattle.codec.proofs.refusal.U8FromRefusal.from.Kinds as number-kinds
 use Rattle.codec.proofs.reader.read_number.Reads as read_number
 use Rattle.codec.proofs.reader.read_number.Kinds as read-number-kinds
 use Rattle.codec.proofs.reader.read_byte.Reads as read_byte
@@ -62,13 +60,13 @@ use Rattle.codec.specs.contracts.reader.Reader.boolean as reader-boolean
 use Rattle.codec.specs.contracts.reader.Reader.string as reader-string
 
 -- what is told fixes the answer
-number_fixed : (x y : NumberRead) (a : Answer (List ℕ)) → told_number x ≡ a → told_number y ≡ a → x ≡ y
+number_fixed : (x y : Result ℕ Refusal) (a : Answer (List ℕ)) → told_number x ≡ a → told_number y ≡ a → x ≡ y
 number_fixed x y a p q = sym (number-told x) ∙ ap number_told (p ∙ sym q) ∙ number-told y
 
-flag_fixed : (x y : FlagRead) (a : Answer (List ℕ)) → told_flag x ≡ a → told_flag y ≡ a → x ≡ y
+flag_fixed : (x y : Result Bool Refusal) (a : Answer (List ℕ)) → told_flag x ≡ a → told_flag y ≡ a → x ≡ y
 flag_fixed x y a p q = sym (flag-told x) ∙ ap flag_told (p ∙ sym q) ∙ flag-told y
 
-told_fixed : (x y : Written) (a : Answer ℕ) → told_written x ≡ a → told_written y ≡ a → x ≡ y
+told_fixed : (x y : Result ℕ Refusal) (a : Answer ℕ) → told_written x ≡ a → told_written y ≡ a → x ≡ y
 told_fixed x y a p q = sym (written-told x) ∙ ap written_told (p ∙ sym q) ∙ written-told y
 
 -- the length of a text's bytes is the length that was told, since they are all there
@@ -83,16 +81,19 @@ answer-number : Answer (List ℕ) → ℕ
 answer-number (got v) = 0
 answer-number (refused n p) = n
 
-text_fixed : (s : List ℕ) (at : ℕ) (x y : TextRead) → told_text s at x ≡ told_text s at y → text_in s at x → text_in s at y → x ≡ y
+text_read : {t u : TextRead} → t.len ≡ u.len → t.next ≡ u.next → record { len = t.len; next = t.next } ≡ u
+text_read {t} {u} l k = rw (l, k)
+
+text_fixed : (s : List ℕ) (at : ℕ) (x y : Result TextRead Refusal) → told_text s at x ≡ told_text s at y → text_in s at x → text_in s at y → x ≡ y
 unfolding answer-length answer-number
-text_fixed s at (Got n next) (Got m after) e p q =
-    let l : n ≡ m = sym (text-length s at n p.0) ∙ ap answer-length e ∙ text-length s at m q.0 in
-    let k : next ≡ after = p.1 ∙ ap (λ (i : ℕ). at + (i + 1)) l ∙ sym q.1 in
-    rw (l, k)
-text_fixed s at (Got n next) (Refused r) e p q = let z : ◌≡◌ {A = ℕ} 0 1 = cc in absurd (omega arith)
-text_fixed s at (Refused r) (Got n next) e p q = let z : ◌≡◌ {A = ℕ} 0 1 = cc in absurd (omega arith)
-text_fixed s at (Refused r) (Refused r') e p q =
-    ap Refused (sym (refusal_back r) ∙ ap refusal_of (ap answer-number e) ∙ refusal_back r')
+text_fixed s at (Ok t) (Ok u) e p q =
+    let l : t.len ≡ u.len = sym (text-length s at t.len p.0) ∙ ap answer-length e ∙ text-length s at u.len q.0 in
+    let k : t.next ≡ u.next = p.1 ∙ ap (λ (i : ℕ). at + (i + 1)) l ∙ sym q.1 in
+    ap Ok (text_read l k)
+text_fixed s at (Ok t) (Err r) e p q = let z : ◌≡◌ {A = ℕ} 0 1 = cc in absurd (omega arith)
+text_fixed s at (Err r) (Ok t) e p q = let z : ◌≡◌ {A = ℕ} 0 1 = cc in absurd (omega arith)
+text_fixed s at (Err r) (Err r') e p q =
+    ap Err (sym (refusal_back r) ∙ ap refusal_of (ap answer-number e) ∙ refusal_back r')
 
 pub number_one : (κs : Lfts 0) (a : Dens κs number-kinds.ps) (x y : (res_t number-kinds.r κs).Denot) (s t : AtExit (ended_of 0 number-kinds.ps number-kinds.r) κs)
     → number.Post κs a x s → number.Post κs a y t → x ≡ y

@@ -1,5 +1,7 @@
 -- Wrong answers that the contracts of the public functions rule out: the definition that the contract names, worked out for an input
 -- where the wrong answer would be another. That no other answer is allowed there is in OneAnswer.antt. Assumes nothing.
+use Rattle.std.specs.Prelude.{Result, Ok, Err, Bool}
+use Rattle.codec.specs.declared.refusal.Refusal.{Refusal}
 use Prim.Native.Nat.{ℕ}
 use mathlib.Core.Bool.{true, false}
 use mathlib.Core.List.{List, [], ◌∷◌}
@@ -24,12 +26,8 @@ use Rattle.codec.specs.Refusals.{refusal_number}
 use Rattle.codec.specs.Told.{width_of, told_number, told_flag, told_text, bit, Writes}
 use Rattle.codec.specs.declared.refusal.Refusal.TheVariants.{BufferOverflow, FamilyLeftBehind}
 use Rattle.codec.specs.declared.reader.Width.TheVariants.{Two}
-use Rattle.codec.specs.declared.reader.NumberRead.{NumberRead}
-use Rattle.codec.specs.declared.reader.FlagRead.{FlagRead}
 use Rattle.codec.specs.declared.reader.TextRead.{TextRead}
 use Rattle.codec.specs.declared.reader.Reader.{Reader}
-use Rattle.codec.specs.declared.writer.Written.{Written}
-use Rattle.codec.specs.declared.writer.Written.TheVariants.{Count, Refused}
 use Rattle.codec.specs.contracts.reader.Reader.new as new
 use Rattle.codec.specs.contracts.reader.Reader.byte as next-byte
 use Rattle.codec.specs.contracts.reader.Reader.u16 as next-u16
@@ -38,7 +36,7 @@ use Rattle.codec.specs.contracts.reader.Reader.u32 as next-u32
 use Rattle.codec.specs.contracts.reader.Reader.boolean as next-boolean
 use Rattle.codec.specs.contracts.reader.Reader.string as next-string
 
--- ---- refusal::number
+-- ---- u8::from of a Refusal
 -- the number of another row: no room is not InvalidPayload, a family left behind is not an unknown one
 pub overflow_3 : refusal_number BufferOverflow ≡ 3
 overflow_3 = refl
@@ -57,7 +55,7 @@ pub missing_first : read_item (number (width_of Two) 5000 6000) (drop 0 (0xFF �
 unfolding read_item
 missing_first = refl
 
--- ---- reader::read_byte, read_word, read_long
+-- ---- reader::read_byte, read_word, Reader::u32
 -- a missing byte is not 0
 pub no_byte : read_item byte (drop 1 (7 ∷ [])) ≡ refused 1 0
 unfolding read_item
@@ -73,7 +71,7 @@ pub long-short : read_item long (drop 0 (1 ∷ 2 ∷ 3 ∷ [])) ≡ refused 1 0
 unfolding read_item
 long-short = refl
 
--- ---- reader::read_flag
+-- ---- Reader::boolean
 -- 2 is no flag
 pub flag_of_two : read_item flag (drop 0 (2 ∷ [])) ≡ refused 2 0
 unfolding read_item
@@ -118,40 +116,40 @@ module _ {M : Type 1} {𝓤 : Ura M} (𝓛 : Logic 𝓤) (mem : Memory → SProp
   held s = record { ref_ptr = (9, 0); ghost_name = 0; now = reader 0 s }
 
   -- the byte behind is not passed over: it is still to come
-  pub byte_takes_one : (κs : Lfts 2) (x : NumberRead) (e : AtExit next-byte.ended κs)
+  pub byte_takes_one : (κs : Lfts 2) (x : Result ℕ Refusal) (e : AtExit next-byte.ended κs)
       → ent 𝓤 ((next-byte.clauses 𝓛 mem run κs (held (7 ∷ 9 ∷ []), tt)).ensures tt x e)
       (fact 𝓤 ((told_number x ≡ got (7 ∷ [])) × (e.0.now.remaining.now ≡ 9 ∷ [])))
   unfolding read_item
   byte_takes_one κs x e = fact_mono 𝓤 _ _ (λ p. (p.0.0, rw p.0.0 at p.0.1))
 
   -- of too few bytes none is left to be read as a shorter number
-  pub word-short : (κs : Lfts 2) (x : NumberRead) (e : AtExit next-u16.ended κs)
+  pub word-short : (κs : Lfts 2) (x : Result ℕ Refusal) (e : AtExit next-u16.ended κs)
       → ent 𝓤 ((next-u16.clauses 𝓛 mem run κs (held (7 ∷ []), tt)).ensures tt x e)
       (fact 𝓤 ((told_number x ≡ refused 1 0) × (e.0.now.remaining.now ≡ [])))
   unfolding read_item
   word-short κs x e = fact_mono 𝓤 _ _ (λ p. (p.0.0, rw p.0.0 at p.0.1))
 
   -- the highest byte stands first
-  pub u24_high_first : (κs : Lfts 2) (x : NumberRead) (e : AtExit next-u24.ended κs)
+  pub u24_high_first : (κs : Lfts 2) (x : Result ℕ Refusal) (e : AtExit next-u24.ended κs)
       → ent 𝓤 ((next-u24.clauses 𝓛 mem run κs (held (0xB3 ∷ 0xE4 ∷ 0x64 ∷ []), tt)).ensures tt x e) (fact 𝓤 (told_number x ≡ got (0xB3E464 ∷ [])))
   unfolding read_item
   u24_high_first κs x e = fact_mono 𝓤 _ _ (λ p. p.0.0)
 
   -- four bytes, and not three with the rest still to come
-  pub u32_takes_four : (κs : Lfts 2) (x : NumberRead) (e : AtExit next-u32.ended κs)
+  pub u32_takes_four : (κs : Lfts 2) (x : Result ℕ Refusal) (e : AtExit next-u32.ended κs)
       → ent 𝓤 ((next-u32.clauses 𝓛 mem run κs (held (0 ∷ 1 ∷ 0xC2 ∷ 0 ∷ 9 ∷ []), tt)).ensures tt x e)
       (fact 𝓤 ((told_number x ≡ got (115200 ∷ [])) × (e.0.now.remaining.now ≡ 9 ∷ [])))
   unfolding read_item
   u32_takes_four κs x e = fact_mono 𝓤 _ _ (λ p. (p.0.0, rw p.0.0 at p.0.1))
 
   -- 2 is no flag that is on
-  pub no_boolean_2 : (κs : Lfts 2) (x : FlagRead) (e : AtExit next-boolean.ended κs)
+  pub no_boolean_2 : (κs : Lfts 2) (x : Result Bool Refusal) (e : AtExit next-boolean.ended κs)
       → ent 𝓤 ((next-boolean.clauses 𝓛 mem run κs (held (2 ∷ 1 ∷ []), tt)).ensures tt x e) (fact 𝓤 (told_flag x ≡ refused 2 0))
   unfolding read_item
   no_boolean_2 κs x e = fact_mono 𝓤 _ _ (λ p. p.0)
 
   -- the 00 belongs to the text: what is still to come begins behind it
-  pub string_takes_its_00 : (κs : Lfts 2) (x : TextRead) (e : AtExit next-string.ended κs)
+  pub string_takes_its_00 : (κs : Lfts 2) (x : Result TextRead Refusal) (e : AtExit next-string.ended κs)
       → ent 𝓤 ((next-string.clauses 𝓛 mem run κs (held (0x41 ∷ 0 ∷ 9 ∷ []), tt)).ensures tt x e)
       (fact 𝓤 ((told_text (0x41 ∷ 0 ∷ 9 ∷ []) 0 x ≡ got (0x41 ∷ [])) × (e.0.now.remaining.now ≡ 9 ∷ [])))
   unfolding read_item
@@ -195,26 +193,26 @@ bytes-there = refl
 
 -- ---- writer::write_alone
 -- its contract: this answer, with these bytes left of those
-abbrev PutsAlone : ℕ → Written → List ℕ → List ℕ → Type 0
+abbrev PutsAlone : ℕ → Result ℕ Refusal → List ℕ → List ℕ → Type 0
 PutsAlone sub r s s' = Writes (stop_room (length s) 1) (sub ∷ []) r s s'
 
 -- one byte, and no more, is counted and put
-pub alone_is_one : PutsAlone 0x05 (Count 1) (7 ∷ 8 ∷ []) (0x05 ∷ 8 ∷ [])
+pub alone_is_one : PutsAlone 0x05 (Ok 1) (7 ∷ 8 ∷ []) (0x05 ∷ 8 ∷ [])
 alone_is_one = (refl, refl)
 
 -- no count without a byte for it
-pub alone_no_room : PutsAlone 0x05 (Refused BufferOverflow) [] []
+pub alone_no_room : PutsAlone 0x05 (Err BufferOverflow) [] []
 alone_no_room = (refl, refl)
 
 -- ---- writer::write_with_byte
 -- the same of it
-abbrev PutsWithByte : ℕ → ℕ → Written → List ℕ → List ℕ → Type 0
+abbrev PutsWithByte : ℕ → ℕ → Result ℕ Refusal → List ℕ → List ℕ → Type 0
 PutsWithByte sub v r s s' = Writes (stop_room (length s) 2) (sub ∷ v ∷ []) r s s'
 
 -- the sub-command stands before its byte
-pub with_byte_order : PutsWithByte 0x05 9 (Count 2) (6 ∷ 7 ∷ 8 ∷ []) (0x05 ∷ 9 ∷ 8 ∷ [])
+pub with_byte_order : PutsWithByte 0x05 9 (Ok 2) (6 ∷ 7 ∷ 8 ∷ []) (0x05 ∷ 9 ∷ 8 ∷ [])
 with_byte_order = (refl, refl)
 
 -- where only one of the two has room, neither is put
-pub with_byte_no_room : PutsWithByte 0x05 9 (Refused BufferOverflow) (6 ∷ []) (6 ∷ [])
+pub with_byte_no_room : PutsWithByte 0x05 9 (Err BufferOverflow) (6 ∷ []) (6 ∷ [])
 with_byte_no_room = (refl, refl)

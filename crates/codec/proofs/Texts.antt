@@ -1,23 +1,23 @@
 -- Reading a text at a place. Assumes nothing.
-use Prim.Native.Nat.{ℕ, ◌+◌, ◌-◌, ◌<◌, ◌≤◌}
-use mathlib.Core.Bool.{Bool, true, false}
+use Prim.Native.Nat.{ℕ, ◌+◌, ◌<◌, ◌≤◌}
+use mathlib.Core.Bool.{Bool, true, false, cond}
 use mathlib.Core.List.{List, [], ◌∷◌}
 use mathlib.Core.Path.{◌≡◌, refl, ap, sym}
 use native.Mathlib.Omega.{arith}
 use native.Mathlib.Numerals.{add-one}
-use lib.ListN.{length, get_or, drop, take, drop_of_length-le, length-drop}
+use lib.ListN.{length, get_or, drop, take, length-drop}
 use lib.Seq.{drop-cons, length-take-le}
-use lib.Dec.{eqb}
-use borrow.Author.Tests.{eq-eqb, ne_eqb, lt-ltb, le-ltb}
+use lib.Dec.{eqb, ltb}
+use borrow.Author.Tests.{eq-eqb, ne_eqb, lt-ltb, le-ltb, ltb-true}
+use Rattle.std.specs.Prelude.{Some, None}
+use Rattle.std.specs.List.{position_or_len}
+use Rattle.std.proofs.lemmas.List.Recursion.{is_position_or_len}
 use Rattle.codec.specs.Pick.{pick}
 use Rattle.codec.specs.Sheet.{text, got, refused}
 use Rattle.codec.specs.Reading.{before0, read_item}
 
 pub before-zero : (s : List ℕ) (i : ℕ) → i < length s → get_or s i 0 ≡ 0 → before0 (drop i s) ≡ []
 before-zero s i h e = rw (drop-cons s i 0 h, eq-eqb (get_or s i 0) 0 e)
-
-pub before_end : (s : List ℕ) (i : ℕ) → length s ≤ i → before0 (drop i s) ≡ []
-before_end s i h = rw (drop_of_length-le s h)
 
 pub before_more : (s : List ℕ) (i : ℕ) → i < length s → (get_or s i 0 ≡ 0 → ⊥) → before0 (drop i s) ≡ get_or s i 0 ∷ before0 (drop (i + 1) s)
 before_more s i h e = rw (drop-cons s i 0 h, ne_eqb (get_or s i 0) 0 e, add-one)
@@ -32,29 +32,49 @@ before-take [] = refl
 before-take (b ∷ s) = take_by b s (eqb b 0) (before-take s)
 
 -- the ways through the code: nothing left, no 00, too long, a text
-pub none_left : (most : ℕ) (s : List ℕ) (at : ℕ) → length s ≤ at → read_item (text 0 most) (drop at s) ≡ refused 1 0
-unfolding read_item
-none_left most s at h = rw (drop_of_length-le s h)
+before_step : (b : ℕ) (s : List ℕ) (t : Bool) → length (pick t [] (b ∷ s)) ≡ cond t 0 (1 + length s)
+before_step b s true = refl
+before_step b s false = omega arith
 
-pub no_end : (most : ℕ) (s : List ℕ) (at e : ℕ) → e ≡ at + length (before0 (drop at s)) → length s ≤ e → read_item (text 0 most) (drop at s) ≡ refused 1 0
-unfolding read_item
-no_end most s at e p h = rw (le-ltb (length (before0 (drop at s))) (length (drop at s)) (rw length-drop (omega arith)))
+cond_pick : {A : Type 0} (t : Bool) (x y : A) → cond t x y ≡ pick t x y
+cond_pick true x y = refl
+cond_pick false x y = refl
 
-pub too_long : (most : ℕ) (s : List ℕ) (at e : ℕ) → e ≡ at + length (before0 (drop at s)) → e < length s
-    → most < e - at → read_item (text 0 most) (drop at s) ≡ refused 1 0
-unfolding read_item
-too_long most s at e p h l =
-    rw (lt-ltb (length (before0 (drop at s))) (length (drop at s)) (rw length-drop (omega arith)), lt-ltb most (length (before0 (drop at s))) (omega arith))
+before_place : (s : List ℕ) → length (before0 s) ≡ position_or_len (λ b. eqb b 0) s
+before_place = is_position_or_len (λ s. length (before0 s)) (λ b. eqb b 0) refl (λ b s. before_step b (before0 s) (eqb b 0))
 
-pub text_is : (most : ℕ) (s : List ℕ) (at e : ℕ) → e ≡ at + length (before0 (drop at s)) → e < length s → e - at ≤ most
-    → got (take (e - at) (drop at s)) ≡ read_item (text 0 most) (drop at s)
+-- the place of the first 00, as a search tells it
+pub zero_place : (s : List ℕ) → cond (ltb (position_or_len (λ b. eqb b 0) s) (length s)) (Some (position_or_len (λ b. eqb b 0) s)) None
+    ≡ pick (ltb (length (before0 s)) (length s)) (Some (length (before0 s))) None
+zero_place s = rw (← before_place s) (cond_pick (ltb (length (before0 s)) (length s)) _ _)
+
+pub text_none : (most : ℕ) (s : List ℕ) → None ≡ pick (ltb (length (before0 s)) (length s)) (Some (length (before0 s))) None → read_item (text 0 most) s ≡ refused 1 0
 unfolding read_item
-text_is most s at e p h l =
-    let m : e - at ≡ length (before0 (drop at s)) = omega arith in
+text_none most s h = by (ltb (length (before0 s)) (length s)) refl h
+  where
+    by : (t : Bool) → ltb (length (before0 s)) (length s) ≡ t → None ≡ pick t (Some (length (before0 s))) None
+        → pick (ltb (length (before0 s)) (length s)) (pick (ltb most (length (before0 s))) (refused 1 0) (got (before0 s))) (refused 1 0) ≡ refused 1 0
+    by true p g = let z : ◌≡◌ {A = ℕ} 0 1 = cc in absurd (omega arith)
+    by false p g = rw p
+
+pub text_some : (s : List ℕ) (n : ℕ) → Some n ≡ pick (ltb (length (before0 s)) (length s)) (Some (length (before0 s))) None → (n ≡ length (before0 s)) × (n < length s)
+text_some s n h = by (ltb (length (before0 s)) (length s)) refl h
+  where
+    by : (t : Bool) → ltb (length (before0 s)) (length s) ≡ t → Some n ≡ pick t (Some (length (before0 s))) None → (n ≡ length (before0 s)) × (n < length s)
+    by true p g = let e : n ≡ length (before0 s) = cc in (e, rw e (ltb-true (length (before0 s)) (length s) p))
+    by false p g = let z : ◌≡◌ {A = ℕ} 0 1 = cc in absurd (omega arith)
+
+pub text_over : (most : ℕ) (s : List ℕ) (n : ℕ) → n ≡ length (before0 s) → n < length s → most < n → read_item (text 0 most) s ≡ refused 1 0
+unfolding read_item
+text_over most s n e h l = rw (lt-ltb (length (before0 s)) (length s) (rw e at h), lt-ltb most (length (before0 s)) (rw e at l))
+
+pub text_is : (most : ℕ) (s : List ℕ) (n : ℕ) → n ≡ length (before0 s) → n < length s → n ≤ most → got (take n s) ≡ read_item (text 0 most) s
+unfolding read_item
+text_is most s n e h l =
     rw (
-      lt-ltb (length (before0 (drop at s))) (length (drop at s)) (rw length-drop (omega arith)),
-      le-ltb most (length (before0 (drop at s))) (omega arith),
-      m,
+      lt-ltb (length (before0 s)) (length s) (rw e at h),
+      le-ltb most (length (before0 s)) (rw e at l),
+      e,
       before-take,
     )
 

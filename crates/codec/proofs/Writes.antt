@@ -1,10 +1,15 @@
 -- Answers of the code: each tells one thing, and what is told fixes it. Assumes nothing.
-use Prim.Native.Nat.{ℕ, zero, suc, ◌+◌, ◌-◌, ◌<◌, ◌≤◌}
+use Rattle.std.specs.Prelude.{Result, Ok, Err}
+use Prim.Native.Nat.{ℕ, zero, suc, ◌+◌, ◌-◌, ◌/◌, ◌%◌, ◌<◌, ◌≤◌}
 use mathlib.Core.Bool.{Bool, true, false}
-use mathlib.Core.List.{List, ◌++◌}
-use mathlib.Core.Path.{◌≡◌, refl, ap, sym, ◌∙◌}
+use mathlib.Core.List.{List, [], ◌∷◌, ◌++◌, append_assoc}
+use mathlib.Core.Path.{◌≡◌, refl, ap, sym, ◌∙◌, subst}
 use native.Mathlib.Omega.{arith}
-use lib.ListN.{length}
+use native.Mathlib.Nat.{div-one}
+use lib.ListN.{length, take, drop}
+use borrow.Rule.Slice.PartMut.{put_mid}
+use Rattle.std.proofs.lemmas.List.Edits.{sets-eq}
+use Rattle.std.proofs.lemmas.List.{drop-drop}
 use lib.Seq.{sets, length-sets}
 use lib.Dec.{ltb, eqb}
 use borrow.Author.Tests.{le-ltb, lt-ltb, ltb-true, ltb-false}
@@ -16,12 +21,6 @@ use Rattle.codec.specs.Refusals.{refusal_number, SetOut, numbered}
 use Rattle.codec.specs.Told.{told_number, told_flag, told_written, written_out, count_out, Writes}
 use Rattle.codec.specs.declared.refusal.Refusal.{Refusal}
 use Rattle.codec.specs.declared.refusal.Refusal.TheVariants.{InvalidPayloadLength, InvalidPayload, BufferOverflow, FamilyLeftBehind, RecordNotMade, NotAsWritten, NoSuchField, NumberOutsideRange}
-use Rattle.codec.specs.declared.reader.NumberRead.{NumberRead}
-use Rattle.codec.specs.declared.reader.NumberRead.TheVariants.{Got, Refused}
-use Rattle.codec.specs.declared.reader.FlagRead.{FlagRead}
-use Rattle.codec.specs.declared.reader.FlagRead.TheVariants.{Got as GotFlag, Refused as RefusedFlag}
-use Rattle.codec.specs.declared.writer.Written.{Written}
-use Rattle.codec.specs.declared.writer.Written.TheVariants.{Count, Refused as RefusedWrite}
 use Rattle.codec.proofs.Digits.{length-bytes_of}
 use Rattle.codec.proofs.Loops.{sets_append}
 use Rattle.codec.proofs.Stops.{room-only}
@@ -59,67 +58,74 @@ refusal_some NoSuchField = omega arith
 refusal_some NumberOutsideRange = omega arith
 
 -- ---- what is told fixes the answer
-abbrev pub number_told : Answer (List ℕ) → NumberRead
-number_told (got v) = Got (first v)
-number_told (refused n p) = Refused (refusal_of n)
+abbrev pub number_told : Answer (List ℕ) → Result ℕ Refusal
+number_told (got v) = Ok (first v)
+number_told (refused n p) = Err (refusal_of n)
 
-pub number-told : (r : NumberRead) → number_told (told_number r) ≡ r
-number-told (Got n) = refl
-number-told (Refused r) = ap Refused (refusal_back r)
+pub number-told : (r : Result ℕ Refusal) → number_told (told_number r) ≡ r
+number-told (Ok n) = refl
+number-told (Err r) = ap Err (refusal_back r)
 
-abbrev pub flag_told : Answer (List ℕ) → FlagRead
-flag_told (got v) = GotFlag (eqb (first v) 1)
-flag_told (refused n p) = RefusedFlag (refusal_of n)
+abbrev pub flag_told : Answer (List ℕ) → Result Bool Refusal
+flag_told (got v) = Ok (eqb (first v) 1)
+flag_told (refused n p) = Err (refusal_of n)
 
-pub flag-told : (r : FlagRead) → flag_told (told_flag r) ≡ r
-flag-told (GotFlag true) = refl
-flag-told (GotFlag false) = refl
-flag-told (RefusedFlag r) = ap RefusedFlag (refusal_back r)
+pub flag-told : (r : Result Bool Refusal) → flag_told (told_flag r) ≡ r
+flag-told (Ok true) = refl
+flag-told (Ok false) = refl
+flag-told (Err r) = ap Err (refusal_back r)
 
-abbrev pub written_told : Answer ℕ → Written
-written_told (got n) = Count n
-written_told (refused n p) = RefusedWrite (refusal_of n)
+abbrev pub written_told : Answer ℕ → Result ℕ Refusal
+written_told (got n) = Ok n
+written_told (refused n p) = Err (refusal_of n)
 
-pub written-told : (r : Written) → written_told (told_written r) ≡ r
-written-told (Count n) = refl
-written-told (RefusedWrite r) = ap RefusedWrite (refusal_back r)
+pub written-told : (r : Result ℕ Refusal) → written_told (told_written r) ≡ r
+written-told (Ok n) = refl
+written-told (Err r) = ap Err (refusal_back r)
 
 -- number and count, and the answer that they are of
-pub out_some : (r : Refusal) (n : ℕ) → written_out (RefusedWrite r) ≡ count_out 0 n → ⊥
+pub out_some : (r : Refusal) (n : ℕ) → written_out (Err r) ≡ count_out 0 n → ⊥
 out_some r n e = let d : refusal_number r ≡ 0 = cc in omega (arith, refusal_some r)
 
-pub out_told : (r : Written) (stop n : ℕ) → written_out r ≡ count_out stop n → told_written r ≡ counted stop n
-out_told (Count k) zero n e = let d : k ≡ n = cc in ap (λ (x : ℕ). got x) d
-out_told (Count k) (suc stop) n e = let z : ◌≡◌ {A = ℕ} 0 1 = cc in absurd (omega arith)
-out_told (RefusedWrite r) zero n e = absurd (out_some r n e)
-out_told (RefusedWrite r) (suc stop) n e = let d : refusal_number r ≡ suc stop = cc in ap (λ (x : ℕ). refused x 0) d
+pub out_told : (r : Result ℕ Refusal) (stop n : ℕ) → written_out r ≡ count_out stop n → told_written r ≡ counted stop n
+out_told (Ok k) zero n e = let d : k ≡ n = cc in ap (λ (x : ℕ). got x) d
+out_told (Ok k) (suc stop) n e = let z : ◌≡◌ {A = ℕ} 0 1 = cc in absurd (omega arith)
+out_told (Err r) zero n e = absurd (out_some r n e)
+out_told (Err r) (suc stop) n e = let d : refusal_number r ≡ suc stop = cc in ap (λ (x : ℕ). refused x 0) d
 
-abbrev pub out_written : SetOut ℕ → Written
-out_written (numbered zero n) = Count n
-out_written (numbered (suc k) n) = RefusedWrite (refusal_of (suc k))
+abbrev pub out_written : SetOut ℕ → Result ℕ Refusal
+out_written (numbered zero n) = Ok n
+out_written (numbered (suc k) n) = Err (refusal_of (suc k))
 
-out_back : (r : Written) → out_written (written_out r) ≡ r
-out_back (Count n) = refl
-out_back (RefusedWrite InvalidPayloadLength) = refl
-out_back (RefusedWrite InvalidPayload) = refl
-out_back (RefusedWrite BufferOverflow) = refl
-out_back (RefusedWrite FamilyLeftBehind) = refl
-out_back (RefusedWrite RecordNotMade) = refl
-out_back (RefusedWrite NotAsWritten) = refl
-out_back (RefusedWrite NoSuchField) = refl
-out_back (RefusedWrite NumberOutsideRange) = refl
+out_back : (r : Result ℕ Refusal) → out_written (written_out r) ≡ r
+out_back (Ok n) = refl
+out_back (Err InvalidPayloadLength) = refl
+out_back (Err InvalidPayload) = refl
+out_back (Err BufferOverflow) = refl
+out_back (Err FamilyLeftBehind) = refl
+out_back (Err RecordNotMade) = refl
+out_back (Err NotAsWritten) = refl
+out_back (Err NoSuchField) = refl
+out_back (Err NumberOutsideRange) = refl
 
-pub written_fixed : (x y : Written) (a : SetOut ℕ) → written_out x ≡ a → written_out y ≡ a → x ≡ y
+pub written_fixed : (x y : Result ℕ Refusal) (a : SetOut ℕ) → written_out x ≡ a → written_out y ≡ a → x ≡ y
 written_fixed x y a e f = sym (out_back x) ∙ ap out_written (e ∙ sym f) ∙ out_back y
 
 -- writing has one answer, and leaves one buffer
-pub writes_one : (stop : ℕ) (w : List ℕ) (x y : Written) (s p q : List ℕ) → Writes stop w x s p → Writes stop w y s q → (x ≡ y) × (p ≡ q)
+pub writes_one : (stop : ℕ) (w : List ℕ) (x y : Result ℕ Refusal) (s p q : List ℕ) → Writes stop w x s p → Writes stop w y s q → (x ≡ y) × (p ≡ q)
 writes_one stop w x y s p q g h =
     (written_fixed x y (count_out stop (length w)) g.0 h.0, g.1 ∙ sym h.1)
 
 -- ---- putting
 pub put-fits : (s : List ℕ) (at : ℕ) (w : List ℕ) → at + length w ≤ length s → put_at s at w ≡ sets s at w
 put-fits s at w h = rw (le-ltb (length s) (at + length w) h)
+
+-- bytes copied over a part of s
+pub put_part : (s : List ℕ) (at : ℕ) (w : List ℕ) {n : ℕ} → n ≡ length w → at + n ≤ length s → put_mid at (at + n - at) s w ≡ put_at s at w
+put_part s at w {n} g h =
+    let e : at + n - at ≡ length w = omega arith in
+    let k : at + length w ≤ length s = rw (← g) h in
+    rw (e, put-fits s at w k, sets-eq w s at k, drop-drop) (sym (append_assoc (take at s) w (drop (at + length w) s)))
 
 pub put-not : (s : List ℕ) (at : ℕ) (w : List ℕ) → length s < at + length w → put_at s at w ≡ s
 put-not s at w h = rw (lt-ltb (length s) (at + length w) h)
@@ -151,19 +157,33 @@ beyond-short len at n h = sym (lt-ltb len (at + n) (omega arith))
 pub put_number_not : (s : List ℕ) (at n w v : ℕ) → n ≡ w → length s < at + n → put_at s at (bytes_of w v) ≡ s
 put_number_not s at n w v e h = put-not s at (bytes_of w v) (rw (length-bytes_of w v, ← e) h)
 
-pub put_number_is : (s s' : List ℕ) (at n w v : ℕ) → n ≡ w → at + n ≤ length s → s' ≡ sets s at (bytes_of n v) → s' ≡ put_at s at (bytes_of w v)
-put_number_is s s' at n w v e h g = (rw e at g) ∙ sym (put-fits s at (bytes_of w v) (rw (length-bytes_of w v, ← e) h))
+abbrev four : ℕ → List ℕ
+four v = v / 16777216 % 256 ∷ v / 65536 % 256 ∷ v / 256 % 256 ∷ v % 256 ∷ []
+
+-- the last bytes of a number's four
+digits_last : (n v : ℕ) → (0 < n) × (n ≤ 4) → take (4 - (4 - n)) (drop (4 - n) (four v)) ≡ bytes_of n v
+digits_last zero v h = absurd (omega arith)
+digits_last (suc zero) v h = rw div-one refl
+digits_last (suc (suc zero)) v h = rw div-one refl
+digits_last (suc (suc (suc zero))) v h = rw div-one refl
+digits_last (suc (suc (suc (suc zero)))) v h = rw div-one refl
+digits_last (suc (suc (suc (suc (suc n))))) v h = absurd (omega arith)
+
+pub put_number_is : (s : List ℕ) (at n v : ℕ) (d : List ℕ) {w : ℕ} → (n ≡ w) × ((0 < n) × (n ≤ 4)) → at + n ≤ length s
+    → d ≡ take (4 - (4 - n)) (drop (4 - n) (four v)) → put_mid at (at + n - at) s d ≡ put_at s at (bytes_of w v)
+put_number_is s at n v d h g e =
+    rw (e ∙ digits_last n v h.1) (subst (λ (j : ℕ). put_mid at (at + n - at) s (bytes_of n v) ≡ put_at s at (bytes_of j v)) h.0 (put_part s at (bytes_of n v) (sym (length-bytes_of n v)) g))
 
 -- ---- a writer's two ends: it counts what it put, or leaves all as it was
 pub free : (stop n m : ℕ) → got n ≡ counted stop m → (stop ≡ 0) × (n ≡ m)
 free zero n m h = (refl, cc)
 free (suc k) n m h = let z : ◌≡◌ {A = ℕ} 0 1 = cc in absurd (omega arith)
 
-pub writes-count : (stop n : ℕ) (w s s' : List ℕ) → got n ≡ counted stop (length w) → s' ≡ sets s 0 w → Writes stop w (Count n) s s'
+pub writes-count : (stop n : ℕ) (w s s' : List ℕ) → got n ≡ counted stop (length w) → s' ≡ sets s 0 w → Writes stop w (Ok n) s s'
 writes-count zero n w s s' h e = let d : n ≡ length w = cc in (ap (λ (x : ℕ). numbered 0 x) d, e)
 writes-count (suc k) n w s s' h e = let z : ◌≡◌ {A = ℕ} 0 1 = cc in absurd (omega arith)
 
-pub writes-refused : (stop : ℕ) (w s : List ℕ) (r : Refusal) → refused (refusal_number r) 0 ≡ counted stop (length w) → Writes stop w (RefusedWrite r) s s
+pub writes-refused : (stop : ℕ) (w s : List ℕ) (r : Refusal) → refused (refusal_number r) 0 ≡ counted stop (length w) → Writes stop w (Err r) s s
 writes-refused zero w s r h = let z : ◌≡◌ {A = ℕ} 0 1 = cc in absurd (omega arith)
 writes-refused (suc k) w s r h = let d : refusal_number r ≡ suc k = cc in (ap (λ (x : ℕ). numbered x 0) d, refl)
 
@@ -174,10 +194,10 @@ room-there room n h = rw (le-ltb room n h)
 pub room-not : (room n : ℕ) → room < n → stop_room room n ≡ 3
 room-not room n h = rw (lt-ltb room n h)
 
-pub writes-room : (s w s' : List ℕ) → length w ≤ length s → s' ≡ sets s 0 w → Writes (stop_room (length s) (length w)) w (Count (length w)) s s'
+pub writes-room : (s w s' : List ℕ) → length w ≤ length s → s' ≡ sets s 0 w → Writes (stop_room (length s) (length w)) w (Ok (length w)) s s'
 writes-room s w s' h e = writes-count (stop_room (length s) (length w)) (length w) w s s' (rw (room-there (length s) (length w) h)) e
 
-pub writes_none : (s w : List ℕ) → length s < length w → Writes (stop_room (length s) (length w)) w (RefusedWrite BufferOverflow) s s
+pub writes_none : (s w : List ℕ) → length s < length w → Writes (stop_room (length s) (length w)) w (Err BufferOverflow) s s
 writes_none s w h = writes-refused (stop_room (length s) (length w)) w s BufferOverflow (rw (room-not (length s) (length w) h))
 
 -- ---- puts one behind the other
@@ -198,18 +218,18 @@ put_on s s' s'' a b n g h e l = (rw g at h) ∙ put_next s a b n e l
 -- ---- a family whose values are all in range looks at room only
 pub in_room : (rs : List Row) (sub : ℕ) (vs : List (List ℕ)) (s s' : List ℕ) (n : ℕ) → ok_items (items_of rs sub) vs ≡ true
     → length (write_body rs (said sub vs)) ≡ n → n ≤ length s → s' ≡ sets s 0 (write_body rs (said sub vs))
-    → Writes (stop_in_order rs (length s) (said sub vs)) (write_body rs (said sub vs)) (Count n) s s'
+    → Writes (stop_in_order rs (length s) (said sub vs)) (write_body rs (said sub vs)) (Ok n) s s'
 in_room rs sub vs s s' n o e h g =
     let w = write_body rs (said sub vs) in
     rw (room-only rs (length s) sub vs o, ← e) (writes-room s w s' (rw e h) g)
 
 pub no_room : (rs : List Row) (sub : ℕ) (vs : List (List ℕ)) (s : List ℕ) (n : ℕ) → ok_items (items_of rs sub) vs ≡ true
     → length (write_body rs (said sub vs)) ≡ n → length s < n
-    → Writes (stop_in_order rs (length s) (said sub vs)) (write_body rs (said sub vs)) (RefusedWrite BufferOverflow) s s
+    → Writes (stop_in_order rs (length s) (said sub vs)) (write_body rs (said sub vs)) (Err BufferOverflow) s s
 no_room rs sub vs s n o e h =
     rw (room-only rs (length s) sub vs o) (writes_none s (write_body rs (said sub vs)) (rw e h))
 
-pub room-writes : (rs : List Row) (sub : ℕ) (vs : List (List ℕ)) (w s s' : List ℕ) (r : Written) → ok_items (items_of rs sub) vs ≡ true
+pub room-writes : (rs : List Row) (sub : ℕ) (vs : List (List ℕ)) (w s s' : List ℕ) (r : Result ℕ Refusal) → ok_items (items_of rs sub) vs ≡ true
     → write_body rs (said sub vs) ≡ w → Writes (stop_room (length s) (length w)) w r s s'
     → Writes (stop_in_order rs (length s) (said sub vs)) (write_body rs (said sub vs)) r s s'
 room-writes rs sub vs w s s' r o e h =
@@ -220,7 +240,7 @@ room-writes rs sub vs w s s' r o e h =
     (rw (f, g) h.0, rw (f, e) h.1)
 
 -- ---- a family that looks at values first
-pub values-writes : (rs : List Row) (sub : ℕ) (vs : List (List ℕ)) (w s s' : List ℕ) (r : Written) → ok_items (items_of rs sub) vs ≡ true
+pub values-writes : (rs : List Row) (sub : ℕ) (vs : List (List ℕ)) (w s s' : List ℕ) (r : Result ℕ Refusal) → ok_items (items_of rs sub) vs ≡ true
     → write_body rs (said sub vs) ≡ w → Writes (stop_room (length s) (length w)) w r s s'
     → Writes (stop_values_first rs (length s) (said sub vs)) (write_body rs (said sub vs)) r s s'
 values-writes rs sub vs w s s' r o e h =

@@ -2,7 +2,7 @@
 ghost use Rattle.std.specs.Prelude.{◌≡◌};
 ghost use Rattle.codec.specs.Refusals.{refusal_number};
 
-#[derive(Clone, Copy)]
+#[derive(Clone, Copy, Debug, PartialEq, Eq)]
 pub enum Refusal {
     InvalidPayloadLength,
     InvalidPayload,
@@ -14,24 +14,19 @@ pub enum Refusal {
     NumberOutsideRange,
 }
 
-pub fn number(r: Refusal) -> u8
-    ensures { result ≡ refusal_number r }
-{
-    match r {
-        Refusal::InvalidPayloadLength => 1,
-        Refusal::InvalidPayload => 2,
-        Refusal::BufferOverflow => 3,
-        Refusal::FamilyLeftBehind => 4,
-        Refusal::RecordNotMade => 5,
-        Refusal::NotAsWritten => 6,
-        Refusal::NoSuchField => 7,
-        Refusal::NumberOutsideRange => 8,
-    }
-}
+impl From<Refusal> for u8 {
+    ghost from_gives = { λ why number. number ≡ refusal_number why };
 
-// What an answer that is a struct opens with.
-#[derive(Clone, Copy)]
-pub enum Outcome {
-    Accepted,
-    Refused(Refusal),
+    fn from(why: Refusal) -> u8 {
+        match why {
+            Refusal::InvalidPayloadLength => 1,
+            Refusal::InvalidPayload => 2,
+            Refusal::BufferOverflow => 3,
+            Refusal::FamilyLeftBehind => 4,
+            Refusal::RecordNotMade => 5,
+            Refusal::NotAsWritten => 6,
+            Refusal::NoSuchField => 7,
+            Refusal::NumberOutsideRange => 8,
+        }
+    }
 }

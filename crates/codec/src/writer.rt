@@ -1,5 +1,5 @@
 // Items put into a lent buffer.
-ghost use Rattle.std.specs.Prelude.{◌≡◌, ◌≤◌, ◌+◌, ◌∷◌, [], length};
+ghost use Rattle.std.specs.Prelude.{◌≡◌, ◌∷◌, []};
 ghost use Rattle.std.proofs.lemmas.List.Edits.{sets};
 ghost use Rattle.codec.specs.Pick.{pick};
 ghost use Rattle.codec.specs.Digits.{bytes_of};
@@ -9,53 +9,33 @@ ghost use Rattle.codec.specs.Told.{width_of, bit, told_written, WritesAll};
 use crate::reader::{Width, beyond, bytes_of};
 use crate::refusal::Refusal;
 
-// What writing a body answers.
-#[derive(Clone, Copy)]
-pub enum Written {
-    Count(usize),
-    Refused(Refusal),
-}
-
 // 3 unless n bytes have room, else the count n.
-fn room_for(room: usize, n: usize) -> Written
+fn room_for(room: usize, n: usize) -> Result<usize, Refusal>
     ensures { told_written result ≡ counted (stop_room room n) n }
 {
     if room < n {
-        Written::Refused(Refusal::BufferOverflow)
+        Err(Refusal::BufferOverflow)
     } else {
-        Written::Count(n)
+        Ok(n)
     }
 }
 
 // 2 unless ok, then 3 unless n bytes have room: VTX, ACK, and each colour of LED.
-pub fn values_first(ok: bool, room: usize, n: usize) -> Written
+pub fn values_first(ok: bool, room: usize, n: usize) -> Result<usize, Refusal>
     ensures { told_written result ≡ counted (pick ok (stop_room room n) 2) n }
 {
     if ok {
         room_for(room, n)
     } else {
-        Written::Refused(Refusal::InvalidPayload)
+        Err(Refusal::InvalidPayload)
     }
 }
 
-// A flag's number.
+// A flag's number. std's conversion under a name: docs/PROMISES.md has its promise, and must-fail/flag_255 its wrong answer.
 pub fn bit_of(b: bool) -> u8
     ensures { result ≡ bit b }
 {
-    if b { 1 } else { 0 }
-}
-
-fn put_back(s: &mut [u8], at: usize, w: usize, v: u32)
-    requires { at + w ≤ length s.old }
-    ensures { s.new ≡ sets s.old at (bytes_of w v) }
-{
-    let mut i = w;
-    let mut x = v;
-    while 0 < i {
-        i -= 1;
-        s[at + i] = (x % 256) as u8;
-        x = x / 256;
-    }
+    u8::from(b)
 }
 
 // A number in a width's bytes, where they have room.
@@ -66,7 +46,9 @@ pub fn put_number(buffer: &mut [u8], at: usize, width: Width, value: u32)
     if beyond(buffer.len(), at, count) {
         return;
     }
-    put_back(buffer, at, count, value);
+    let digits = value.to_be_bytes();
+    let end = at + count;
+    buffer[at..end].copy_from_slice(&digits[4 - count..]);
 }
 
 // A byte, where it has room.
@@ -78,17 +60,6 @@ pub fn put_byte(buffer: &mut [u8], at: usize, value: u8)
     }
 }
 
-fn put_each(s: &mut [u8], at: usize, t: &[u8])
-    requires { at + length t.now ≤ length s.old }
-    ensures { s.new ≡ sets s.old at t.now }
-{
-    let mut i = 0;
-    while i < t.len() {
-        s[at + i] = t[i];
-        i += 1;
-    }
-}
-
 // Bytes as they are, where they have room.
 pub fn put_bytes(buffer: &mut [u8], at: usize, bytes: &[u8])
     ensures { buffer.new ≡ put_at buffer.old at bytes.now }
@@ -96,7 +67,8 @@ pub fn put_bytes(buffer: &mut [u8], at: usize, bytes: &[u8])
     if beyond(buffer.len(), at, bytes.len()) {
         return;
     }
-    put_each(buffer, at, bytes);
+    let end = at + bytes.len();
+    buffer[at..end].copy_from_slice(bytes);
 }
 
 // The lengths of the two bodies below.
@@ -105,24 +77,24 @@ pub const SUB_COMMAND_LEN: usize = 1;
 pub const WITH_BYTE_LEN: usize = 2;
 
 // A body that is a sub-command alone.
-pub fn write_alone(sub: u8, buffer: &mut [u8]) -> Written
+pub fn write_alone(sub: u8, buffer: &mut [u8]) -> Result<usize, Refusal>
     ensures { WritesAll (sub ∷ []) result buffer.old buffer.new }
 {
     if buffer.len() < SUB_COMMAND_LEN {
-        return Written::Refused(Refusal::BufferOverflow);
+        return Err(Refusal::BufferOverflow);
     }
     buffer[0] = sub;
-    Written::Count(SUB_COMMAND_LEN)
+    Ok(SUB_COMMAND_LEN)
 }
 
 // A body that is a sub-command and one byte.
-pub fn write_with_byte(sub: u8, value: u8, buffer: &mut [u8]) -> Written
+pub fn write_with_byte(sub: u8, value: u8, buffer: &mut [u8]) -> Result<usize, Refusal>
     ensures { WritesAll (sub ∷ value ∷ []) result buffer.old buffer.new }
 {
     if buffer.len() < WITH_BYTE_LEN {
-        return Written::Refused(Refusal::BufferOverflow);
+        return Err(Refusal::BufferOverflow);
     }
     buffer[0] = sub;
     buffer[1] = value;
-    Written::Count(WITH_BYTE_LEN)
+    Ok(WITH_BYTE_LEN)
 }

@@ -1,77 +1,61 @@
 -- What the functions that read cite: a body that was read, one that was refused. Assumes nothing.
+use Rattle.std.specs.Prelude.{Ok, Err}
 use Prim.Native.Nat.{ℕ}
 use mathlib.Core.List.{List, []}
-use mathlib.Core.Path.{◌≡◌, refl, ap, sym, ◌∙◌}
+use mathlib.Core.Path.{◌≡◌, refl, ap, ◌∙◌}
 use native.Mathlib.Omega.{arith}
-use Rattle.codec.specs.Sheet.{Answer, got, refused, and_then, Row, Said}
-use Rattle.codec.specs.Reading.{read_body}
-use Rattle.codec.specs.Refusals.{number_in, refusal_number, outcome_number}
+use lib.ListN.{length, get_or}
+use Rattle.codec.specs.Sheet.{Answer, got, refused, and_then}
+use Rattle.codec.specs.Refusals.{refusal_number, Gives}
 use Rattle.codec.specs.declared.refusal.Refusal.{Refusal}
-use Rattle.codec.specs.declared.refusal.Outcome.TheVariants.{Accepted}
-use Rattle.codec.proofs.Writes.{refusal_some}
-use Rattle.codec.proofs.Refused.{zero-got}
-use Rattle.families.specs.Ack.{read_ack, AckIs}
-use Rattle.families.specs.Screen.{ScreenSaid, started, returned, read_screen, ScreenIs}
-use Rattle.families.specs.declared.ack.AckAnswer.{AckAnswer}
-use Rattle.families.specs.declared.screen.ScreenAnswer.{ScreenAnswer}
-use Rattle.families.specs.declared.payload.CommandPayload.{CommandPayload}
+use Rattle.codec.proofs.Refused.{Some}
+use Rattle.families.specs.Text.{padded}
+use Rattle.families.specs.Ack.{acked}
+use Rattle.families.specs.Popup.{write_popup}
+use Rattle.families.specs.Screen.{ScreenSaid, started, returned, screen_read}
+use Rattle.families.specs.declared.ack.AckRead.{AckRead}
+use Rattle.families.specs.declared.screen.ScreenRead.{ScreenRead}
 use Rattle.families.specs.declared.payload.CommandPayload.TheVariants.{Screen, Ack}
-use Rattle.families.proofs.Answered.{ack_some, screen_some}
 use Rattle.commands.specs.Command.{WithStored, with_stored, command_of}
-use Rattle.commands.specs.Reading.{read_plain, read_as, screen_with_stored, ack_with_stored, CommandIs}
+use Rattle.commands.specs.Reading.{screen_with_stored, ack_with_stored}
 use Rattle.commands.specs.declared.DirectCommands.{DirectCommands}
-use Rattle.commands.specs.declared.CommandAnswer.{CommandAnswer}
 
 -- a body with these addresses
 abbrev pub addressed : ℕ → ℕ → Answer WithStored → Answer DirectCommands
 addressed dst src a = and_then a (λ k. got (command_of dst src k))
 
--- ---- a body of a sheet
-pub plain-got : (r : CommandAnswer) (rows : List Row) (payload : Said → CommandPayload) (dst src : ℕ) (s : List ℕ) (b : Said) (p : CommandPayload)
-    → got b ≡ read_body rows s → payload b ≡ p → CommandIs (got (command_of dst src (with_stored p []))) r
-    → CommandIs (addressed dst src (read_plain rows payload s)) r
-plain-got r rows payload dst src s b p e f h = rw (← e, f) h
+pub addressed_is : (a : Answer WithStored) (x : DirectCommands) (dst src : ℕ) → got x ≡ and_then a (λ k. got (command_of 0 0 k))
+    → Gives (λ c. c) (addressed dst src a) (Ok (record { dst_addr = dst; src_addr = src; payload = x.payload; len = x.len; bytes = x.bytes }))
+addressed_is (got (with_stored p t)) x dst src h = let e : x ≡ command_of 0 0 (with_stored p t) = cc in rw e
+addressed_is (refused n p) x dst src h = let z : ◌≡◌ {A = ℕ} 0 1 = cc in absurd (omega arith)
 
-pub plain-refused : (r : CommandAnswer) (rows : List Row) (payload : Said → CommandPayload) (dst src : ℕ) (s : List ℕ) (n p : ℕ)
-    → refused n p ≡ read_body rows s → CommandIs (refused n p) r → CommandIs (addressed dst src (read_plain rows payload s)) r
-plain-refused r rows payload dst src s n p e h = rw (← e) h
+pub unaddressed : (a : Answer WithStored) (r : Refusal) (dst src : ℕ) → refused (refusal_number r) 0 ≡ and_then a (λ k. got (command_of 0 0 k))
+    → Gives (λ c. c) (addressed dst src a) (Err r)
+unaddressed (got k) r dst src h = let z : ◌≡◌ {A = ℕ} 0 1 = cc in absurd (omega arith)
+unaddressed (refused n p) r dst src h = cc
 
--- ---- an answer of a refusal's number
-pub turned_away : {A : Type 0} (r : CommandAnswer) (a : Answer A) (f : A → WithStored) (dst src : ℕ) (k : Refusal) → refusal_number k ≡ number_in a
-    → CommandIs (refused (refusal_number k) 0) r → CommandIs (addressed dst src (and_then a (λ x. got (f x)))) r
-turned_away r (got x) f dst src k e h = let l = refusal_some k in absurd (omega arith)
-turned_away r (refused n p) f dst src k e h = rw e at h
+-- what is kept of a body that was made from something
+pub kept_of : {A K : Type 0} (kept : WithStored → K) (a : Answer A) (f : A → WithStored)
+    → and_then a (λ x. got (kept (f x))) ≡ and_then (and_then a (λ x. got (f x))) (λ k. got (kept k))
+kept_of kept (got x) f = refl
+kept_of kept (refused n p) f = refl
 
--- ---- 0x22 Screen
-abbrev pub screen_command : ℕ → ℕ → ScreenAnswer → CommandAnswer
-screen_command dst src x = record {
-  outcome = Accepted;
-  command = record { dst_addr = dst; src_addr = src; payload = Screen x.command; len = x.popup.len; bytes = x.popup.bytes };
-}
+-- a refusal: its number, place 0
+pub none_kept : {A B K : Type 0} (shown : A → B) (a : Answer A) (f : A → K) (r : Refusal) → Some a → Gives shown a (Err r)
+    → refused (refusal_number r) 0 ≡ and_then a (λ x. got (f x))
+none_kept shown (got x) f r o h = absurd h
+none_kept shown (refused n p) f r o h = rw (h, (o n p refl).1)
 
-screen_is : (dst src : ℕ) (q : ScreenSaid) (x : ScreenAnswer) → ScreenIs (got q) x
-    → CommandIs (got (command_of dst src (screen_with_stored q))) (screen_command dst src x)
-screen_is dst src (started p) x h = (refl, rw (h.1.0, h.1.1))
-screen_is dst src (returned b) x h = (refl, rw (h.1.0, h.1.1))
+-- what is kept of a popup or a returned value, and of an ACK, by their stored bytes
+pub screen_kept : {K : Type 0} (kept : WithStored → K) (a : Answer ScreenSaid) (x : ScreenRead) (k : K) → Gives screen_read a (Ok x)
+    → ((t : List ℕ) → x.popup.len ≡ length t → x.popup.bytes ≡ padded 55 t → k ≡ kept (with_stored (Screen x.command) t))
+    → got k ≡ and_then a (λ q. got (kept (screen_with_stored q)))
+screen_kept kept (got (started p)) x k h g = ap got (g (write_popup p) (rw h) (rw h) ∙ rw h)
+screen_kept kept (got (returned b)) x k h g = ap got (g [] (rw h) (rw h) ∙ rw h)
+screen_kept kept (refused n p) x k h g = absurd h
 
-pub screen_got : (dst src : ℕ) (s : List ℕ) (x : ScreenAnswer) → ScreenIs (read_screen s) x → x.outcome ≡ Accepted
-    → CommandIs (read_as dst src 0x22 s) (screen_command dst src x)
-screen_got dst src s x h e =
-    let z = zero-got (read_screen s) (screen_some s) (sym h.0 ∙ ap outcome_number e) in
-    rw z.1 (screen_is dst src z.0 x (rw z.1 at h))
-
--- ---- 0xFF ACK
-abbrev pub ack_command : ℕ → ℕ → AckAnswer → CommandAnswer
-ack_command dst src x = record {
-  outcome = Accepted;
-  command = record { dst_addr = dst; src_addr = src; payload = Ack x.ack; len = x.len; bytes = x.bytes };
-}
-
-ack_is : (dst src : ℕ) (vs : List (List ℕ)) (x : AckAnswer) → AckIs (got vs) x → CommandIs (got (command_of dst src (ack_with_stored vs))) (ack_command dst src x)
-ack_is dst src vs x h = (refl, rw (h.1.0, h.1.1.0, h.1.1.1))
-
-pub ack_got : (dst src : ℕ) (s : List ℕ) (x : AckAnswer) → AckIs (read_ack s) x → x.outcome ≡ Accepted
-    → CommandIs (read_as dst src 0xFF s) (ack_command dst src x)
-ack_got dst src s x h e =
-    let z = zero-got (read_ack s) (ack_some s) (sym h.0 ∙ ap outcome_number e) in
-    rw z.1 (ack_is dst src z.0 x (rw z.1 at h))
+pub ack_kept : {K : Type 0} (kept : WithStored → K) (a : Answer (List (List ℕ))) (x : AckRead) (k : K) → Gives acked a (Ok x)
+    → ((t : List ℕ) → x.len ≡ length t → x.bytes ≡ padded 55 t → k ≡ kept (with_stored (Ack x.ack) t))
+    → got k ≡ and_then a (λ vs. got (kept (ack_with_stored vs)))
+ack_kept kept (got vs) x k h g = ap got (g (get_or vs 3 []) (rw h) (rw h) ∙ rw h)
+ack_kept kept (refused n p) x k h g = absurd h

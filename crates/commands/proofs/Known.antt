@@ -1,5 +1,6 @@
 -- What reading a payload gives: a refusal has a number other than 0; what passes the tests before the body, and what is stopped. Assumes
 -- nothing.
+use Rattle.std.specs.Prelude.{Result, Ok, Err}
 use Prim.Native.Nat.{ℕ, ◌≤◌, ◌<◌}
 use mathlib.Core.Bool.{Bool, true, false}
 use mathlib.Core.List.{List, []}
@@ -12,12 +13,11 @@ use Rattle.crc.specs.Check.{payload_check}
 use Rattle.codec.specs.Pick.{pick}
 use Rattle.codec.specs.Sheet.{Answer, got, refused, Row, Said}
 use Rattle.codec.specs.Reading.{read_body}
-use Rattle.codec.specs.Refusals.{refusal_number, outcome_number}
-use Rattle.codec.specs.declared.refusal.Outcome.TheVariants.{Accepted, Refused}
+use Rattle.codec.specs.Refusals.{refusal_number}
 use Rattle.codec.specs.declared.refusal.Refusal.{Refusal}
-use Rattle.codec.proofs.Refused.{Some, some-got, some-refused, some_then, some-pick, body-some, zero-got}
+use Rattle.codec.proofs.Refused.{Some, some-got, some-refused, some_then, some-pick, body-some}
 use Rattle.codec.proofs.There.{and_got}
-use Rattle.codec.proofs.Writes.{refusal_some}
+use Rattle.codec.proofs.Outcomes.{gives_ok, gives_err}
 use Rattle.families.specs.Sheets.{fc_rows, osd_rows, vtx_rows, led_rows, general_rows, crossfire_rows, flow_rows}
 use Rattle.families.specs.Fc.{fc_of}
 use Rattle.families.specs.Osd.{osd_of}
@@ -36,7 +36,6 @@ use Rattle.commands.specs.Reading.{body_in, check_in, read_plain, screen_with_st
 use Rattle.commands.specs.Reading.Equation.{read_is}
 use Rattle.commands.specs.Kind.{stop_reading}
 use Rattle.commands.specs.declared.DirectCommands.{DirectCommands}
-use Rattle.commands.specs.declared.CommandAnswer.{CommandAnswer}
 
 plain-some : (rows : List Row) (payload : Said → CommandPayload) (s : List ℕ) → Some (read_plain rows payload s)
 plain-some rows payload s = some_then (read_body rows s) _ (body-some rows s) (λ b. some-got (with_stored (payload b) []))
@@ -108,15 +107,11 @@ read_short p h = rw (read_is p, lt-ltb (length p) 4 h)
 pub read_long : (p : List ℕ) → 60 < length p → read_command p ≡ refused 1 0
 read_long p h = rw (read_is p, le-ltb (length p) 4 (omega arith), lt-ltb 60 (length p) h)
 
--- an answer that accepts has its command
-pub accepted_is : (a : Answer DirectCommands) (x : CommandAnswer) → Some a → CommandIs a x → x.outcome ≡ Accepted → a ≡ got x.command
-accepted_is a x o h e =
-    let z = zero-got a o (sym h.0 ∙ ap outcome_number e) in
-    let i = rw z.1 at h.1 in
-    z.1 ∙ ap (λ (c : DirectCommands). got c) (sym i)
+-- a Result that accepts has the command
+pub accepted_is : (a : Answer DirectCommands) (x : Result DirectCommands Refusal) (c : DirectCommands) → CommandIs a x → x ≡ Ok c → a ≡ got c
+accepted_is a x c h e = let k = gives_ok (λ d. d) a c (rw e at h) in k.1.0 ∙ ap got (sym k.1.1)
 
 -- one that refuses, its number
-pub refused_is : (a : Answer DirectCommands) (x : CommandAnswer) (why : Refusal) → CommandIs a x → x.outcome ≡ Refused
-    why → (p : ℕ) × (a ≡ refused (refusal_number why) p)
-refused_is (got c) x why h e = let l = refusal_some why in let z : refusal_number why ≡ 0 = sym (ap outcome_number e) ∙ h.0 in absurd (omega arith)
-refused_is (refused n p) x why h e = (p, ap (λ (k : ℕ). refused k p) (sym h.0 ∙ ap outcome_number e))
+pub refused_is : (a : Answer DirectCommands) (x : Result DirectCommands Refusal) (why : Refusal) → CommandIs a x → x ≡ Err why
+    → (p : ℕ) × (a ≡ refused (refusal_number why) p)
+refused_is a x why h e = gives_err (λ c. c) a why (rw e at h)

@@ -1,4 +1,5 @@
 -- A body written into its part of the buffer and closed: the payload is written. Assumes nothing.
+use Rattle.std.specs.Prelude.{Ok, Err}
 use Prim.Native.Nat.{ℕ, zero, suc, ◌+◌, ◌≤◌, ◌<◌}
 use mathlib.Core.Bool.{true, false}
 use mathlib.Core.List.{List}
@@ -11,7 +12,6 @@ use borrow.Rule.Slice.PartMut.{put_mid, put_same}
 use Rattle.codec.specs.Writing.{write_items}
 use Rattle.codec.specs.Told.{Writes}
 use Rattle.codec.specs.declared.refusal.Refusal.{Refusal}
-use Rattle.codec.specs.declared.writer.Written.TheVariants.{Count, Refused}
 use Rattle.codec.proofs.Stops.{in_order_fits, values_first_fits}
 use Rattle.codec.proofs.Writes.{out_some, out_told, free}
 use Rattle.codec.proofs.InTurn.{writes-all}
@@ -58,27 +58,27 @@ mid_length s k h = length-take-le k (drop 3 s) (rw length-drop (omega arith))
 
 -- counted: nothing stopped the body, and it stands in its place, the k bytes from the third on
 pub body_in_lem : (p : CommandPayload) (t s q : List ℕ) (k n : ℕ) → k + 4 ≤ length s
-    → Writes (stop_body p t (length (take k (drop 3 s)))) (body_of p t) (Count n) (take k (drop 3 s)) q
+    → Writes (stop_body p t (length (take k (drop 3 s)))) (body_of p t) (Ok n) (take k (drop 3 s)) q
     → (stop_body p t k ≡ 0) × ((n ≡ length (body_of p t)) × ((n ≤ k) × (put_mid 3 k s q ≡ sets s 3 (body_of p t))))
 body_in_lem p t s q k n h e =
     let w = body_of p t in
     let g = rw (mid_length s k h) at e in
-    let f = free (stop_body p t k) n (length w) (out_told (Count n) (stop_body p t k) (length w) g.0) in
+    let f = free (stop_body p t k) n (length w) (out_told (Ok n) (stop_body p t k) (length w) g.0) in
     let b = body-fits p t k f.0 in
     let x : q ≡ sets (take k (drop 3 s)) 0 w = rw f.0 at g.1 in
     (f.0, (f.1, (omega arith, rw x (part-put s w 3 k (omega arith) b))))
 
 pub closing-fits : (p : CommandPayload) (t s q : List ℕ) (k n : ℕ) → k + 4 ≤ length s
-    → Writes (stop_body p t (length (take k (drop 3 s)))) (body_of p t) (Count n) (take k (drop 3 s)) q → n + 4 ≤ length (put_mid 3 k s q)
+    → Writes (stop_body p t (length (take k (drop 3 s)))) (body_of p t) (Ok n) (take k (drop 3 s)) q → n + 4 ≤ length (put_mid 3 k s q)
 closing-fits p t s q k n h e =
     let b = body_in_lem p t s q k n h e in
     let l = length-sets s 3 (body_of p t) in
     rw (b.1.1.1, l) (omega (arith, b.1.1.0))
 
 pub made-written : (dst src : ℕ) (p : CommandPayload) (t s q s' : List ℕ) (k n id : ℕ) → k ≡ room_of (length s) → k + 4 ≤ length s
-    → Writes (stop_body p t (length (take k (drop 3 s)))) (body_of p t) (Count n) (take k (drop 3 s)) q
+    → Writes (stop_body p t (length (take k (drop 3 s)))) (body_of p t) (Ok n) (take k (drop 3 s)) q
     → id ≡ family_id p → s' ≡ closed dst src id n (put_mid 3 k s q)
-    → Writes (stop_body p t (room_of (length s))) (checked (opening dst src p t)) (Count (n + 4)) s s'
+    → Writes (stop_body p t (room_of (length s))) (checked (opening dst src p t)) (Ok (n + 4)) s s'
 made-written dst src p t s q s' k n id r h e i f =
     let b = body_in_lem p t s q k n h e in
     let z : stop_body p t (room_of (length s)) ≡ 0 = rw r at b.0 in
@@ -88,14 +88,14 @@ made-written dst src p t s q s' k n id r h e i f =
 
 -- refused: the part is as it was, and so is all
 pub body_refused : (dst src : ℕ) (p : CommandPayload) (t s q : List ℕ) (k : ℕ) (why : Refusal) → k ≡ room_of (length s) → k + 4 ≤ length s
-    → Writes (stop_body p t (length (take k (drop 3 s)))) (body_of p t) (Refused why) (take k (drop 3 s)) q
-    → Writes (stop_body p t (room_of (length s))) (checked (opening dst src p t)) (Refused why) s (put_mid 3 k s q)
+    → Writes (stop_body p t (length (take k (drop 3 s)))) (body_of p t) (Err why) (take k (drop 3 s)) q
+    → Writes (stop_body p t (room_of (length s))) (checked (opening dst src p t)) (Err why) s (put_mid 3 k s q)
 body_refused dst src p t s q k why r h e =
     let m = mid_length s k h ∙ r in
     by (stop_body p t (room_of (length s))) (rw m at e)
   where
-    by : (stop : ℕ) → Writes stop (body_of p t) (Refused why) (take k (drop 3 s)) q
-        → Writes stop (checked (opening dst src p t)) (Refused why) s (put_mid 3 k s q)
+    by : (stop : ℕ) → Writes stop (body_of p t) (Err why) (take k (drop 3 s)) q
+        → Writes stop (checked (opening dst src p t)) (Err why) s (put_mid 3 k s q)
     by zero g = absurd (out_some why (length (body_of p t)) g.0)
     by (suc n) g = (g.0, rw g.1 (put_same 3 k s))
 

@@ -1,15 +1,15 @@
 -- What a command is, but for its addresses and the bytes stored beside it. Assumes nothing.
-use Rattle.std.specs.Prelude.{ℕ, List, length, ltb, eqb}
+use Rattle.std.specs.Prelude.{Result, ℕ, List, length, ltb, eqb}
 use Rattle.crc.specs.Check.{payload_check}
 use Rattle.codec.specs.Pick.{pick}
-use Rattle.codec.specs.Sheet.{Answer, got, refused, and_then}
-use Rattle.codec.specs.Refusals.{refusal_number}
+use Rattle.codec.specs.Sheet.{Answer, got, and_then}
+use Rattle.codec.specs.Refusals.{told}
 use Rattle.families.specs.declared.payload.CommandPayload.{CommandPayload}
 use Rattle.commands.specs.Command.{WithStored, with_stored}
 use Rattle.commands.specs.Reading.{check_in, read_command}
 use Rattle.commands.specs.declared.DirectCommands.{DirectCommands}
 use Rattle.commands.specs.declared.kind.KindRead.{KindRead}
-use Rattle.commands.specs.declared.kind.KindRead.TheVariants.{Got, Refused}
+use Rattle.codec.specs.declared.refusal.Refusal.{Refusal}
 
 -- a payload of a family, and how many bytes are stored beside it
 pub data Kind : Type 0 where
@@ -23,13 +23,15 @@ abbrev pub read_kind : List ℕ → Answer Kind
 read_kind p = and_then (read_command p) (λ c. got (kind_of c))
 
 -- what an answer tells
-abbrev pub told_kind : KindRead → Answer Kind
-told_kind (Got payload len) = got (kind payload len)
-told_kind (Refused r) = refused (refusal_number r) 0
+abbrev pub told_kind : Result KindRead Refusal → Answer Kind
+told_kind r = told (λ k. kind k.payload k.len) r
 
 -- ---- for the contracts of private functions
 abbrev pub kind_with_stored : WithStored → Kind
 kind_with_stored (with_stored payload t) = kind payload (length t)
+
+abbrev pub kind_kept : WithStored → KindRead
+kind_kept (with_stored p t) = record { payload = p; len = length t }
 
 -- what stops reading before the body: "Length below 4 or above 60: 1. Check differs: 2."
 abbrev pub stop_reading : List ℕ → ℕ

@@ -1,10 +1,10 @@
 -- Document 01, "Reading order", for a whole payload. Assumes nothing.
-use Rattle.std.specs.Prelude.{ℕ, ◌-◌, ◌≡◌, List, [], length, take, drop, get_or, ltb, eqb}
+use Rattle.std.specs.Prelude.{Result, ℕ, ◌-◌, ◌≡◌, List, [], length, take, drop, get_or, ltb, eqb}
 use Rattle.crc.specs.Check.{payload_check}
 use Rattle.codec.specs.Pick.{pick}
 use Rattle.codec.specs.Sheet.{Answer, got, refused, and_then, Row, Said}
 use Rattle.codec.specs.Reading.{read_body}
-use Rattle.codec.specs.Refusals.{outcome_number, number_in, value_in}
+use Rattle.codec.specs.Refusals.{Gives}
 use Rattle.families.specs.Sheets.{fc_rows, osd_rows, vtx_rows, led_rows, general_rows, crossfire_rows, flow_rows}
 use Rattle.families.specs.Fc.{fc_of}
 use Rattle.families.specs.Osd.{osd_of}
@@ -18,9 +18,9 @@ use Rattle.families.specs.Popup.{write_popup}
 use Rattle.families.specs.Screen.{ScreenSaid, started, returned, read_screen, screen_of}
 use Rattle.families.specs.declared.payload.CommandPayload.{CommandPayload}
 use Rattle.families.specs.declared.payload.CommandPayload.TheVariants.{Fc, Osd, Vtx, Led, General, Crossfire, FlowControl, Screen, Ack}
-use Rattle.commands.specs.Command.{WithStored, with_stored, command_of, blank_command}
+use Rattle.commands.specs.Command.{WithStored, with_stored, command_of}
 use Rattle.commands.specs.declared.DirectCommands.{DirectCommands}
-use Rattle.commands.specs.declared.CommandAnswer.{CommandAnswer}
+use Rattle.codec.specs.declared.refusal.Refusal.{Refusal}
 pub mod Equation
 
 -- "destination (1), source (1), command id (1), body, check (1)"
@@ -73,6 +73,6 @@ reading_order p =
 pub read_command : List ℕ → Answer DirectCommands
 read_command p = reading_order p
 
--- "With each number come the same blank record"
-abbrev pub CommandIs : Answer DirectCommands → CommandAnswer → Type 0
-CommandIs a r = (outcome_number r.outcome ≡ number_in a) × (r.command ≡ value_in blank_command a)
+-- the command that was got, or the refusal
+abbrev pub CommandIs : Answer DirectCommands → Result DirectCommands Refusal → Type 0
+CommandIs a r = Gives (λ c. c) a r

@@ -1,10 +1,11 @@
 -- Document 01, "Writing order", for a whole command. Assumes nothing.
+use Rattle.std.specs.Prelude.{Result}
+use Rattle.codec.specs.declared.refusal.Refusal.{Refusal}
 use Rattle.std.specs.Prelude.{ℕ, ◌-◌, List, [], ◌∷◌, ◌++◌, length, ltb, leb}
 use Rattle.crc.specs.Check.{command_polynomial, check_of}
 use Rattle.codec.specs.Pick.{pick}
 use Rattle.codec.specs.Writing.{write_items, write_body, stop_in_order, stop_room, stop_values_first}
 use Rattle.codec.specs.Told.{Writes}
-use Rattle.codec.specs.declared.writer.Written.{Written}
 use Rattle.families.specs.Sheets.{fc_rows, osd_rows, vtx_rows, led_rows, general_rows, crossfire_rows, flow_rows}
 use Rattle.families.specs.Fc.{fc_says}
 use Rattle.families.specs.Osd.{osd_says}
@@ -74,13 +75,13 @@ pub stop_writing : DirectCommands → ℕ → ℕ
 stop_writing c n = writing_order c n
 
 -- WRITING answers r and leaves s' of s: a body, with these bytes stored beside it
-abbrev pub WritesBody : CommandPayload → List ℕ → Written → List ℕ → List ℕ → Type 0
+abbrev pub WritesBody : CommandPayload → List ℕ → Result ℕ Refusal → List ℕ → List ℕ → Type 0
 WritesBody p t r s s' = Writes (stop_body p t (length s)) (body_of p t) r s s'
 
 -- the payload of a command that is made, in a buffer that has the four bytes around a body
-abbrev pub WritesMade : ℕ → ℕ → CommandPayload → List ℕ → Written → List ℕ → List ℕ → Type 0
+abbrev pub WritesMade : ℕ → ℕ → CommandPayload → List ℕ → Result ℕ Refusal → List ℕ → List ℕ → Type 0
 WritesMade dst src p t r s s' = Writes (stop_body p t (room_of (length s))) (checked (opening dst src p t)) r s s'
 
 -- the payload of any command
-abbrev pub WritesCommand : DirectCommands → Written → List ℕ → List ℕ → Type 0
+abbrev pub WritesCommand : DirectCommands → Result ℕ Refusal → List ℕ → List ℕ → Type 0
 WritesCommand c r s s' = Writes (stop_writing c (length s)) (payload_of c) r s s'

@@ -1,122 +1,98 @@
-// A body, by its command id.
-ghost use Rattle.codec.specs.Sheet.{got};
-ghost use Rattle.commands.specs.Command.{with_stored, command_of};
-ghost use Rattle.commands.specs.Reading.{read_as, CommandIs};
-ghost use Rattle.std.specs.Prelude.{[]};
+// A body, by its command id; and what is kept of it: the command, or its kind alone.
+ghost use Rattle.std.specs.Prelude.{◌≡◌, [], List, ℕ, length};
+ghost use Rattle.codec.specs.Sheet.{got, and_then};
+ghost use Rattle.codec.specs.Refusals.{told};
+ghost use Rattle.families.specs.Text.{padded};
+ghost use Rattle.commands.specs.Command.{WithStored, with_stored, command_of};
+ghost use Rattle.families.specs.Ack.{read_ack};
+ghost use Rattle.families.specs.Screen.{read_screen};
+ghost use Rattle.commands.specs.Reading.{read_family, screen_with_stored, ack_with_stored};
 
-use crate::{CommandAnswer, DirectCommands};
-use codec::refusal::{Outcome, Refusal};
-use families::crossfire::CrossfireRead;
-use families::fc::FcRead;
-use families::flow_control::FlowControlRead;
-use families::general::GeneralRead;
-use families::led::LedRead;
-use families::osd::OsdRead;
+use crate::DirectCommands;
+use codec::refusal::Refusal;
 use families::payload::{
     COMMAND_ID_ACK, COMMAND_ID_BLUETOOTH, COMMAND_ID_CROSSFIRE, COMMAND_ID_FC,
     COMMAND_ID_FLOW_CONTROL, COMMAND_ID_GENERAL, COMMAND_ID_LED, COMMAND_ID_OSD,
     COMMAND_ID_RC_OVER_WIFI, COMMAND_ID_SCREEN, COMMAND_ID_VTX, CommandPayload,
 };
 use families::screen::MAX_POPUP_DATA_LEN;
-use families::vtx::VtxRead;
 
-// A command that stores no bytes.
-fn plain(dst: u8, src: u8, payload: CommandPayload) -> CommandAnswer
-    ensures { CommandIs (got (command_of dst src (with_stored payload []))) result }
-{
-    CommandAnswer {
-        outcome: Outcome::Accepted,
-        command: DirectCommands {
-            dst_addr: dst,
-            src_addr: src,
+// What is kept of a family's command and of the bytes stored beside it.
+pub(crate) trait Kept {
+    ghost kept: { WithStored → Self };
+
+    // Of a command that stores no bytes.
+    fn alone(payload: CommandPayload) -> Self
+        ensures { result ≡ kept (with_stored payload []) };
+
+    // The first len of the bytes are stored; the others are zeros.
+    fn beside(payload: CommandPayload, len: usize, bytes: [u8; MAX_POPUP_DATA_LEN]) -> Self
+        ensures { (t : List ℕ) → len ≡ length t → bytes ≡ padded 55 t → result ≡ kept (with_stored payload t) };
+}
+
+// The addresses stand before the body.
+impl Kept for DirectCommands {
+    ghost kept = { command_of 0 0 };
+
+    fn alone(payload: CommandPayload) -> DirectCommands {
+        DirectCommands {
+            dst_addr: 0,
+            src_addr: 0,
             payload,
             len: 0,
             bytes: [0u8; MAX_POPUP_DATA_LEN],
-        },
+        }
+    }
+
+    fn beside(
+        payload: CommandPayload,
+        len: usize,
+        bytes: [u8; MAX_POPUP_DATA_LEN],
+    ) -> DirectCommands {
+        DirectCommands {
+            dst_addr: 0,
+            src_addr: 0,
+            payload,
+            len,
+            bytes,
+        }
     }
 }
 
-fn read_screen(dst: u8, src: u8, body: &[u8]) -> CommandAnswer
-    ensures { CommandIs (read_as dst src 0x22 body.now) result }
-{
-    let read = families::screen::read(body);
-    let outcome = read.outcome;
-    let command = read.command;
-    let popup = read.popup;
-    let bytes = popup.bytes;
-    match outcome {
-        Outcome::Accepted => CommandAnswer {
-            outcome: Outcome::Accepted,
-            command: DirectCommands {
-                dst_addr: dst,
-                src_addr: src,
-                payload: CommandPayload::Screen(command),
-                len: popup.len,
-                bytes,
-            },
-        },
-        Outcome::Refused(r) => crate::refused_with(r),
-    }
-}
-
-fn read_ack(dst: u8, src: u8, body: &[u8]) -> CommandAnswer
-    ensures { CommandIs (read_as dst src 0xFF body.now) result }
-{
-    let read = families::ack::read(body);
-    let outcome = read.outcome;
-    let ack = read.ack;
-    let bytes = read.bytes;
-    match outcome {
-        Outcome::Accepted => CommandAnswer {
-            outcome: Outcome::Accepted,
-            command: DirectCommands {
-                dst_addr: dst,
-                src_addr: src,
-                payload: CommandPayload::Ack(ack),
-                len: read.len,
-                bytes,
-            },
-        },
-        Outcome::Refused(r) => crate::refused_with(r),
-    }
-}
-
-pub(crate) fn read_family(dst: u8, src: u8, id: u8, body: &[u8]) -> CommandAnswer
-    ensures { CommandIs (read_as dst src id body.now) result }
+pub(crate) fn read_family<K: Kept>(id: u8, body: &[u8]) -> Result<K, Refusal>
+    ensures { told (λ k. k) result ≡ and_then (read_family id body.now) (λ k. got (K.kept k)) }
 {
     match id {
-        COMMAND_ID_FC => match families::fc::read(body) {
-            FcRead::Got(c) => plain(dst, src, CommandPayload::Fc(c)),
-            FcRead::Refused(r) => crate::refused_with(r),
-        },
-        COMMAND_ID_OSD => match families::osd::read(body) {
-            OsdRead::Got(c) => plain(dst, src, CommandPayload::Osd(c)),
-            OsdRead::Refused(r) => crate::refused_with(r),
-        },
-        COMMAND_ID_VTX => match families::vtx::read(body) {
-            VtxRead::Got(c) => plain(dst, src, CommandPayload::Vtx(c)),
-            VtxRead::Refused(r) => crate::refused_with(r),
-        },
-        COMMAND_ID_LED => match families::led::read(body) {
-            LedRead::Got(c) => plain(dst, src, CommandPayload::Led(c)),
-            LedRead::Refused(r) => crate::refused_with(r),
-        },
-        COMMAND_ID_GENERAL => match families::general::read(body) {
-            GeneralRead::Got(c) => plain(dst, src, CommandPayload::General(c)),
-            GeneralRead::Refused(r) => crate::refused_with(r),
-        },
-        COMMAND_ID_CROSSFIRE => match families::crossfire::read(body) {
-            CrossfireRead::Got(c) => plain(dst, src, CommandPayload::Crossfire(c)),
-            CrossfireRead::Refused(r) => crate::refused_with(r),
-        },
-        COMMAND_ID_FLOW_CONTROL => match families::flow_control::read(body) {
-            FlowControlRead::Got(c) => plain(dst, src, CommandPayload::FlowControl(c)),
-            FlowControlRead::Refused(r) => crate::refused_with(r),
-        },
-        COMMAND_ID_SCREEN => read_screen(dst, src, body),
-        COMMAND_ID_ACK => read_ack(dst, src, body),
-        COMMAND_ID_BLUETOOTH => crate::refused_with(Refusal::FamilyLeftBehind),
-        COMMAND_ID_RC_OVER_WIFI => crate::refused_with(Refusal::FamilyLeftBehind),
-        _ => crate::refused_with(Refusal::InvalidPayload),
+        COMMAND_ID_FC => Ok(K::alone(CommandPayload::Fc(families::fc::read(body)?))),
+        COMMAND_ID_OSD => Ok(K::alone(CommandPayload::Osd(families::osd::read(body)?))),
+        COMMAND_ID_VTX => Ok(K::alone(CommandPayload::Vtx(families::vtx::read(body)?))),
+        COMMAND_ID_LED => Ok(K::alone(CommandPayload::Led(families::led::read(body)?))),
+        COMMAND_ID_GENERAL => Ok(K::alone(CommandPayload::General(families::general::read(body)?))),
+        COMMAND_ID_CROSSFIRE => Ok(K::alone(CommandPayload::Crossfire(families::crossfire::read(
+            body,
+        )?))),
+        COMMAND_ID_FLOW_CONTROL => Ok(K::alone(CommandPayload::FlowControl(
+            families::flow_control::read(body)?,
+        ))),
+        COMMAND_ID_SCREEN => read_screen(body),
+        COMMAND_ID_ACK => read_ack(body),
+        COMMAND_ID_BLUETOOTH => Err(Refusal::FamilyLeftBehind),
+        COMMAND_ID_RC_OVER_WIFI => Err(Refusal::FamilyLeftBehind),
+        _ => Err(Refusal::InvalidPayload),
     }
+}
+
+fn read_screen<K: Kept>(body: &[u8]) -> Result<K, Refusal>
+    ensures { told (λ k. k) result ≡ and_then (read_screen body.now) (λ q. got (K.kept (screen_with_stored q))) }
+{
+    let read = families::screen::read(body)?;
+    let popup = read.popup;
+    Ok(K::beside(CommandPayload::Screen(read.command), popup.len, popup.bytes))
+}
+
+fn read_ack<K: Kept>(body: &[u8]) -> Result<K, Refusal>
+    ensures { told (λ k. k) result ≡ and_then (read_ack body.now) (λ vs. got (K.kept (ack_with_stored vs))) }
+{
+    let read = families::ack::read(body)?;
+    Ok(K::beside(CommandPayload::Ack(read.ack), read.len, read.bytes))
 }

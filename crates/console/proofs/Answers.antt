@@ -3,17 +3,15 @@ use Prim.Native.Nat.{ℕ, ◌<◌, ◌≤◌}
 use mathlib.Core.List.{List}
 use mathlib.Core.Path.{◌≡◌}
 use lib.ListN.{length}
+use Rattle.std.specs.Prelude.{Option, Some, Result, Ok}
 use Rattle.console.specs.Names.{Named, NamedIn}
 use Rattle.console.specs.Reading.{Within}
-use Rattle.console.specs.declared.Source.{Source}
-use Rattle.console.specs.declared.Input.{Input}
-use Rattle.console.specs.declared.Input.TheVariants.{Opened}
-use Rattle.console.specs.declared.Chunk.{Chunk}
-use Rattle.console.specs.declared.Chunk.TheVariants.{Bytes}
+use Rattle.console.specs.declared.Opened.{Opened}
+use Rattle.console.specs.declared.Said.{Said}
 
-pub opened-named : (program : List ℕ) (r : Input) (source : Source) (n : ℕ) (t : List ℕ) → NamedIn program r t
-    → r ≡ Opened source n → Named program n t
-opened-named program r source n t h e = rw e at h
+pub opened-named : (program : List ℕ) (r : Result Opened Said) (input : Opened) (t : List ℕ) → NamedIn program r t
+    → r ≡ Ok input → Named program input.len t
+opened-named program r input t h e = rw e at h
 
-pub read_bytes : (r : Chunk) (n : ℕ) (s : List ℕ) → Within r s → r ≡ Bytes n → (0 < n) × (n ≤ length s)
+pub read_bytes : (r : Result (Option ℕ) Said) (n : ℕ) (s : List ℕ) → Within r s → r ≡ Ok (Some n) → (0 < n) × (n ≤ length s)
 read_bytes r n s h e = rw e at h

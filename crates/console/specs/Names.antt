@@ -1,8 +1,9 @@
 -- The input that an argument names, and its name as an error tells it. Assumes nothing.
-use Rattle.std.specs.Prelude.{ℕ, ◌≤◌, List, [], ◌∷◌, ◌++◌, ◌≡◌, length, take, eqb}
+use Rattle.std.specs.Prelude.{ℕ, ◌<◌, ◌≤◌, List, [], ◌∷◌, ◌++◌, ◌≡◌, Option, None, Some, Result, Ok, Err, length, take, eqb}
+use Rattle.std.proofs.lemmas.List.Edits.{sets}
 use Rattle.codec.specs.Pick.{pick}
-use Rattle.console.specs.declared.Input.{Input}
-use Rattle.console.specs.declared.Input.TheVariants.{Opened, None}
+use Rattle.console.specs.declared.Opened.{Opened}
+use Rattle.console.specs.declared.Said.{Said}
 use Rattle.console.specs.declared.Argument.{Argument}
 use Rattle.console.specs.declared.Argument.TheVariants.{StandardInput, Unknown, File}
 
@@ -26,11 +27,16 @@ pub record Named (program : List ℕ) (n : ℕ) (t : List ℕ) : Type 0 where
   pub rest : length (name_of program []) ≤ n
 
 -- of an input that was opened, so its length and t; of none, nothing is said
-abbrev pub NamedIn : List ℕ → Input → List ℕ → Type 0
-NamedIn program (Opened source n) t = Named program n t
-NamedIn program None t = Unit {0}
+abbrev pub NamedIn : List ℕ → Result Opened Said → List ℕ → Type 0
+NamedIn program (Ok input) t = Named program input.len t
+NamedIn program (Err said) t = Unit {0}
 
 -- For contracts of private functions, nobody has to believe what follows. An input that was opened has a name of n bytes
-abbrev pub Sized : ℕ → Input → Type 0
-Sized n (Opened source k) = k ≡ n
-Sized n None = Unit {0}
+abbrev pub Sized : ℕ → Result Opened Said → Type 0
+Sized n (Ok input) = input.len ≡ n
+Sized n (Err said) = Unit {0}
+
+-- PUTTING the name w at the front of t answers its length and leaves t'; without room nothing changes
+abbrev pub PutsName : List ℕ → Option ℕ → List ℕ → List ℕ → Type 0
+PutsName w (Some n) t t' = (n ≡ length w) × ((n ≤ length t) × (t' ≡ sets t 0 w))
+PutsName w None t t' = (length t < length w) × (t' ≡ t)

@@ -1,10 +1,9 @@
 -- What a read gives. Assumes nothing.
-use Rattle.std.specs.Prelude.{ℕ, ◌≤◌, ◌<◌, List, length}
-use Rattle.console.specs.declared.Chunk.{Chunk}
-use Rattle.console.specs.declared.Chunk.TheVariants.{Bytes, End, Failed}
+use Rattle.std.specs.Prelude.{ℕ, ◌≤◌, ◌<◌, List, Option, None, Some, Result, Ok, Err, length}
+use Rattle.console.specs.declared.Said.{Said}
 
 -- bytes that were read are some, and no more than have room
-abbrev pub Within : Chunk → List ℕ → Type 0
-Within (Bytes n) s = (0 < n) × (n ≤ length s)
-Within End s = Unit {0}
-Within Failed s = Unit {0}
+abbrev pub Within : Result (Option ℕ) Said → List ℕ → Type 0
+Within (Ok (Some n)) s = (0 < n) × (n ≤ length s)
+Within (Ok None) s = Unit {0}
+Within (Err said) s = Unit {0}

@@ -4,9 +4,8 @@
 // What the system answers is its own: the contracts say what is certain whatever it answers.
 #![tactic(auto)]
 
-ghost use Rattle.std.specs.Prelude.{true, [], ◌≡◌, ◌≤◌, length};
-ghost use Rattle.text.specs.Putting.{PutsBehind};
-ghost use Rattle.console.specs.Names.{argument_of, name_of, Named, NamedIn, Sized};
+ghost use Rattle.std.specs.Prelude.{[], ◌≡◌, ◌^◌, ◌<◌, ◌≤◌, IsOk, IfSome, length};
+ghost use Rattle.console.specs.Names.{argument_of, name_of, NamedIn, PutsName, Sized};
 ghost use Rattle.console.specs.Reading.{Within};
 ghost use Rattle.std.specs.Io.{ReadsAtMost};
 
@@ -25,21 +24,18 @@ pub enum Source {
     File(File),
 }
 
-// An input, with the length of its name as an error tells it; or none, and why was said.
+// An input, with the length of its name as an error tells it. (A length, and no slice: what may not change, the theorem `name-not-beyond`.)
 #[derive(Drop)]
-pub enum Input {
-    Opened { source: Source, len: usize },
-    None,
+pub struct Opened {
+    pub source: Source,
+    pub len: usize,
 }
 
-// What a read gives: so many bytes, at the front; the input has ended; or an error, which was said.
+// Why there is nothing was said on standard error.
 #[derive(Clone, Copy)]
-pub enum Chunk {
-    Bytes(usize),
-    End,
-    Failed,
-}
+pub struct Said;
 
+// (Three kinds without a value, so no Option: what may not change, `argument_of` in specs/Names.antt.)
 // What an argument asks for: standard input; nothing that is known; or a file.
 #[derive(Clone, Copy)]
 enum Argument {
@@ -66,37 +62,26 @@ const ERROR_ROOM: usize = 256;
 fn argument_of(word: &[u8]) -> Argument
     ensures { result ≡ argument_of word.now }
 {
-    if word.len() == 0 {
-        return Argument::File;
+    match word {
+        [b'-'] => Argument::StandardInput,
+        [b'-', ..] => Argument::Unknown,
+        _ => Argument::File,
     }
-    if word[0] != b'-' {
-        return Argument::File;
-    }
-    if word.len() == 1 {
-        return Argument::StandardInput;
-    }
-    Argument::Unknown
 }
 
-// `PROGRAM: WHAT` at the front of `name`, where all of it has room: the answer is its length, else 0.
-fn put_name(name: &mut [u8], program: &[u8], what: &[u8]) -> usize
-    ensures { PutsBehind (name_of program.now what.now) 0 result name.old name.new }
+// `PROGRAM: WHAT` at the front of `name`, where all of it has room: the answer is its length.
+fn put_name(name: &mut [u8], program: &[u8], what: &[u8]) -> Option<usize>
+    ensures { PutsName (name_of program.now what.now) result name.old name.new }
 {
-    if name.len() < program.len() {
-        return 0;
-    }
-    let room = name.len() - program.len();
-    if room < COLON {
-        return 0;
-    }
-    if room - COLON < what.len() {
-        return 0;
-    }
     let from = program.len() + COLON;
+    let room = name.len().checked_sub(from)?;
+    if room < what.len() {
+        return None;
+    }
     put_bytes(name, 0, program);
     put_bytes(name, program.len(), b": ");
     put_bytes(name, from, what);
-    from + what.len()
+    Some(from + what.len())
 }
 
 // What cannot be said on standard error is said nowhere.
@@ -113,60 +98,50 @@ fn words_of(told: &str) -> &str {
 }
 
 // `NAME: ERROR`.
-fn fail(rt: &HostRuntime, name: &[u8], error: io::Error) {
+fn fail(rt: &HostRuntime, name: &[u8], error: io::Error) -> Said {
     let told = InlineText::<ERROR_ROOM>::of(error);
     say(rt, name);
     say(rt, b": ");
     say(rt, words_of(told.as_str()).as_bytes());
     say(rt, b"\n");
+    Said
 }
 
 // A name that has no room: there is no input that an error could tell.
-fn no_room(rt: &HostRuntime, program: &[u8]) -> Input
-    ensures { result ≡ Input.None }
-{
+fn no_room(rt: &HostRuntime, program: &[u8]) -> Said {
     say(rt, program);
     say(rt, b": no room for the input's name\n");
-    Input::None
+    Said
 }
 
-fn standard_input(rt: &HostRuntime, program: &[u8], name: &mut [u8]) -> Input
+fn standard_input(rt: &HostRuntime, program: &[u8], name: &mut [u8]) -> Result<Opened, Said>
     ensures { NamedIn program.now result name.new }
 {
-    let len = put_name(name, program, b"standard input");
-    if len == 0 {
-        return no_room(rt, program);
-    }
-    Input::Opened {
+    let Some(len) = put_name(name, program, b"standard input") else {
+        return Err(no_room(rt, program));
+    };
+    Ok(Opened {
         source: Source::StandardInput(rt.stdin()),
         len,
-    }
+    })
 }
 
 // A file, to be read.
 fn open_read(rt: &HostRuntime, path: &[u8]) -> io::Result<File> {
-    match std::str::from_utf8(path) {
-        Ok(path) => File::open(rt, path),
-        Err(_) => Err(io::Error::from_raw_os_error(EILSEQ)),
-    }
+    let path = std::str::from_utf8(path).map_err(|_| io::Error::from_raw_os_error(EILSEQ))?;
+    File::open(rt, path)
 }
 
 // The file that `name` has from a place on.
-fn open_file(rt: &HostRuntime, name: &[u8], from: usize) -> Input
+fn open_file(rt: &HostRuntime, name: &[u8], from: usize) -> Result<Opened, Said>
     requires { from ≤ length name.now }
     ensures { Sized (length name.now) result }
 {
-    let file = match open_read(rt, &name[from..]) {
-        Ok(file) => file,
-        Err(error) => {
-            fail(rt, name, error);
-            return Input::None;
-        }
-    };
-    Input::Opened {
+    let file = open_read(rt, &name[from..]).map_err(|error| fail(rt, name, error))?;
+    Ok(Opened {
         source: Source::File(file),
         len: name.len(),
-    }
+    })
 }
 
 // The error that tells why an argument could not be taken.
@@ -178,53 +153,37 @@ fn taking(error: FillError) -> io::Error {
 }
 
 // An argument that could not be taken: `PROGRAM: argument`.
-fn fail_argument(rt: &HostRuntime, program: &[u8], name: &mut [u8], error: FillError) -> Input
-    ensures { result ≡ Input.None }
-{
-    let len = put_name(name, program, b"argument");
-    if len == 0 {
-        fail(rt, program, taking(error));
-        return Input::None;
-    }
-    fail(rt, &name[..len], taking(error));
-    Input::None
-}
-
-// The argument stands in `name` from a place on.
-fn open_named(
-    rt: &HostRuntime,
-    program: &[u8],
-    usage: &[u8],
-    name: &mut [u8],
-    from: usize,
-    end: usize,
-) -> Input
-    requires { Named program.now end name.old × (from ≤ end) }
-    ensures { NamedIn program.now result name.new }
-{
-    match argument_of(&name[from..end]) {
-        Argument::StandardInput => standard_input(rt, program, name),
-        Argument::Unknown => {
-            say(rt, usage);
-            Input::None
-        }
-        Argument::File => open_file(rt, &name[..end], from),
+fn fail_argument(rt: &HostRuntime, program: &[u8], name: &mut [u8], error: FillError) -> Said {
+    match put_name(name, program, b"argument") {
+        Some(len) => fail(rt, &name[..len], taking(error)),
+        None => fail(rt, program, taking(error)),
     }
 }
 
 // The one argument, behind `PROGRAM: ` in `name`.
-fn open_argument(rt: &HostRuntime, program: &[u8], usage: &[u8], name: &mut [u8]) -> Input
+fn open_argument(
+    rt: &HostRuntime,
+    program: &[u8],
+    usage: &[u8],
+    name: &mut [u8],
+) -> Result<Opened, Said>
     ensures { NamedIn program.now result name.new }
 {
-    let from = put_name(name, program, b"");
-    if from == 0 {
-        return no_room(rt, program);
-    }
-    let len = match rt.arg(1, &mut name[from..]) {
-        Ok(len) => len,
-        Err(error) => return fail_argument(rt, program, name, error),
+    let Some(from) = put_name(name, program, b"") else {
+        return Err(no_room(rt, program));
     };
-    open_named(rt, program, usage, name, from, from + len)
+    let end = match rt.arg(1, &mut name[from..]) {
+        Ok(len) => from + len,
+        Err(error) => return Err(fail_argument(rt, program, name, error)),
+    };
+    match argument_of(&name[from..end]) {
+        Argument::StandardInput => standard_input(rt, program, name),
+        Argument::Unknown => {
+            say(rt, usage);
+            Err(Said)
+        }
+        Argument::File => open_file(rt, &name[..end], from),
+    }
 }
 
 // Whether the program was called with a word at this place.
@@ -245,13 +204,18 @@ fn given_words(rt: &HostRuntime) -> usize {
 
 // The input that the program's argument names: standard input without one, or where it is `-`; else a file. `name` has its name as an error
 // tells it, `PROGRAM: standard input` or `PROGRAM: FILE`. An option, or a second argument: the usage is said.
-pub fn open_input(rt: &HostRuntime, program: &[u8], usage: &[u8], name: &mut [u8]) -> Input
+pub fn open_input(
+    rt: &HostRuntime,
+    program: &[u8],
+    usage: &[u8],
+    name: &mut [u8],
+) -> Result<Opened, Said>
     ensures { NamedIn program.now result name.new }
 {
     let given = given_words(rt);
     if given > 2 {
         say(rt, usage);
-        return Input::None;
+        return Err(Said);
     }
     if given < 2 {
         return standard_input(rt, program, name);
@@ -269,21 +233,17 @@ fn read_once(source: &mut Source, input: &mut [u8]) -> io::Result<usize>
     }
 }
 
-// One read.
-pub fn read(rt: &HostRuntime, source: &mut Source, name: &[u8], input: &mut [u8]) -> Chunk
+// One read: how many bytes it gave, at the front, or None at the input's end.
+pub fn read(
+    rt: &HostRuntime,
+    source: &mut Source,
+    name: &[u8],
+    input: &mut [u8],
+) -> Result<Option<usize>, Said>
     ensures { Within result input.new }
 {
-    let count = match read_once(source, input) {
-        Ok(count) => count,
-        Err(error) => {
-            fail(rt, name, error);
-            return Chunk::Failed;
-        }
-    };
-    if count == 0 {
-        return Chunk::End;
-    }
-    Chunk::Bytes(count)
+    let count = read_once(source, input).map_err(|error| fail(rt, name, error))?;
+    Ok((count > 0).then_some(count))
 }
 
 // Reads standard input until `input` is full, the input ends or a read fails, and returns how many bytes stand in front.
@@ -292,6 +252,7 @@ pub fn read_full(rt: &HostRuntime, input: &mut [u8]) -> usize
 {
     let mut stdin = rt.stdin();
     let mut done: usize = 0;
+    // no plainer: `done` counts what reads gave, and std's `read_exact` doesn't say how much there was
     while done < input.len() {
         match stdin.read(&mut input[done..]) {
             Ok(count) if count > 0 => done += count,
@@ -301,18 +262,44 @@ pub fn read_full(rt: &HostRuntime, input: &mut [u8]) -> usize
     done
 }
 
-// All of a text to standard output. A failure is said once, by the caller's name for it.
-pub fn write_out(rt: &HostRuntime, text: &[u8], name: &[u8]) -> bool
-    ensures { text.now ≡ [] → result ≡ true }
+// The next `len` bytes of standard input, at the front of `space`. None where they have no room there, or the input ends before.
+pub fn read_part<'a>(rt: &HostRuntime, space: &'a mut [u8], len: usize) -> Option<&'a [u8]>
+    ensures { IfSome result (λ part. length part.now ≡ len) }
 {
-    if text.len() == 0 {
-        return true;
+    if space.len() < len {
+        return None;
     }
-    match rt.stdout().write_all(text) {
-        Ok(()) => true,
-        Err(error) => {
-            fail(rt, name, error);
-            false
-        }
+    let part = &mut space[..len];
+    if read_full(rt, part) < len {
+        return None;
     }
+    Some(part)
+}
+
+// The next case of standard input: its length, two bytes, big-endian, and so many bytes. None at the input's end, and where a case is cut,
+// which is said on standard output.
+pub fn next_case<'a>(rt: &HostRuntime, space: &'a mut [u8]) -> Option<&'a [u8]>
+    ensures { IfSome result (λ case. length case.now < 2 ^ 16) }
+{
+    let mut head = [0u8; 2];
+    if read_full(rt, &mut head) == 0 {
+        return None;
+    }
+    let case = read_part(rt, space, usize::from(u16::from_be_bytes(head)));
+    if case.is_none() {
+        let _ = rt.write_all(b"a case is cut\n");
+    }
+    case
+}
+
+// All of a text to standard output. A failure is said once, by the caller's name for it.
+pub fn write_out(rt: &HostRuntime, text: &[u8], name: &[u8]) -> Result<(), Said>
+    ensures { text.now ≡ [] → IsOk result }
+{
+    if text.is_empty() {
+        return Ok(());
+    }
+    rt.stdout()
+        .write_all(text)
+        .map_err(|error| fail(rt, name, error))
 }

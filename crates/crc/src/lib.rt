@@ -24,10 +24,8 @@ fn eight_steps(r: u8) -> u8
     ensures { result ≡ steps command_polynomial 8 r }
 {
     let mut s = r;
-    let mut i: usize = 0;
-    while i < 8 {
+    for _ in 0..8u32 {
         s = shift(s);
-        i += 1;
     }
     s
 }
@@ -37,10 +35,8 @@ pub fn check(bytes: &[u8], start: u8) -> u8
     ensures { result ≡ check_from command_polynomial start bytes.now }
 {
     let mut r = start;
-    let mut i = 0;
-    while i < bytes.len() {
-        r = eight_steps(r ^ bytes[i]);
-        i += 1;
+    for byte in bytes {
+        r = eight_steps(r ^ *byte);
     }
     r
 }
@@ -50,10 +46,8 @@ fn turns(r: u8, n: usize) -> u8
     ensures { result ≡ steps command_polynomial (8 * n) r }
 {
     let mut s = r;
-    let mut i: usize = 0;
-    while i < n {
+    for _ in 0..n {
         s = eight_steps(s);
-        i += 1;
     }
     s
 }
@@ -70,17 +64,11 @@ pub fn check_with_zeros(check: u8, n: usize) -> u8
     }
 }
 
-fn but_last(len: usize) -> usize
-    ensures { result ≡ len - 1 }
-{
-    if 0 < len { len - 1 } else { 0 }
-}
-
 // The check that belongs into the last byte of `payload`, whatever stands there. The frame type is the first byte of the message.
 pub fn payload_check(packet_type: u8, payload: &[u8]) -> u8
     ensures { result ≡ typed_check packet_type payload.now }
 {
-    let end = but_last(payload.len());
+    let end = payload.len().saturating_sub(1);
     // from start 0, the type taken in
     check(&payload[..end], eight_steps(0 ^ packet_type))
 }

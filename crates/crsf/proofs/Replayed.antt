@@ -1,4 +1,5 @@
 -- A block replayed: what is refused leaves all as it was; what is handed on is both images. Assumes nothing.
+use Rattle.std.specs.Prelude.{Result, Ok, Err}
 use Prim.Native.Nat.{ℕ, ◌<◌, ◌≤◌}
 use mathlib.Core.Bool.{Bool, true, false, not}
 use mathlib.Core.List.{List}
@@ -11,21 +12,19 @@ use borrow.Author.Tests.{le-ltb, lt-ltb, eqb-true}
 use Rattle.codec.specs.Pick.{pick}
 use Rattle.codec.specs.Sheet.{Answer, got, refused, and_then}
 use Rattle.codec.specs.Refusals.{refusal_number}
-use Rattle.codec.specs.declared.refusal.Outcome.TheVariants.{Accepted, Refused}
 use Rattle.codec.specs.declared.refusal.Refusal.{Refusal}
 use Rattle.images.specs.Word.{word}
-use Rattle.replay.specs.Step.{step_of, blank_event, StepIs}
+use Rattle.replay.specs.Step.{step_of, after_step, StepIs}
 use Rattle.replay.specs.declared.Event.{Event}
 use Rattle.replay.specs.declared.Replay.{Replay}
 use Rattle.replay.specs.declared.Step.{Step}
 use Rattle.replay.proofs.Cases.{step-some}
 use Rattle.replay_images.specs.State.{state_image, state_at, state_from, told_state}
 use Rattle.replay_images.specs.Event.{event_image}
-use Rattle.replay_images.specs.declared.state.StateRead.{StateRead}
-use Rattle.replay_images.specs.declared.state.StateRead.TheVariants.{Got, Refused as NoState}
 use Rattle.crsf.specs.Handed.{image_word, image_left}
 use Rattle.crsf.specs.Log.{HandedOn, handed_on, on_of, replayed, more, state_out, event_out, ReplaysOut}
-use Rattle.crsf.proofs.Handed.{value_is, number_is_lem}
+use Rattle.codec.proofs.Outcomes.{gives_ok}
+use Rattle.crsf.proofs.Handed.{turned_away}
 
 -- the image of a state has its bytes
 state-long : (s : List ℕ) (t : Replay) → state_from s ≡ got t → length s ≡ 7
@@ -53,38 +52,36 @@ module _ (position : ℕ) (block s e : List ℕ) where
   pub event-short : (n : ℕ) → length e < 80 → n ≡ word 3 0 0 → ReplaysOut position block n s s e e
   event-short n l h = out_by (refused 3 0) n s e (rw (lt-ltb (length e) 80 l)) h refl refl
 
-  module _ (room : 80 ≤ length e) (w : StateRead) (told : told_state w ≡ state_from s) where
+  module _ (room : 80 ≤ length e) (w : (Result Replay Refusal)) (told : told_state w ≡ state_from s) where
     -- the image of no replay
-    pub no-state : (why : Refusal) (n : ℕ) → w ≡ NoState why → n ≡ word (refusal_number why) 0 0 → ReplaysOut position block n s s e e
+    pub no-state : (why : Refusal) (n : ℕ) → w ≡ Err why → n ≡ word (refusal_number why) 0 0 → ReplaysOut position block n s s e e
     no-state why n f h =
         let g : state_from s ≡ refused (refusal_number why) 0 = sym told ∙ ap told_state f in
         out_by (refused (refusal_number why) 0) n s e (rw (le-ltb (length e) 80 room, g)) h refl refl
 
-    module _ (t : Replay) (given : w ≡ Got t) (x : Step) (steps : StepIs (step_of t position block) x) where
+    module _ (t : Replay) (given : w ≡ Ok t) where
       from_is : state_from s ≡ got t
       from_is = sym told ∙ ap told_state given
 
       replayed_is : replayed s position block (length e) ≡ on_of (step_of t position block)
       replayed_is = rw (le-ltb (length e) 80 room, from_is)
 
-      pub step-refused : (why : Refusal) (n : ℕ) → x.outcome ≡ Refused why → n ≡ word (refusal_number why) 0 0
+      pub step-refused : (why : Refusal) (n : ℕ) → StepIs (step_of t position block) (Err why) → n ≡ word (refusal_number why) 0 0
           → ReplaysOut position block n s s e e
       step-refused why n f h =
-          let g = number_is_lem (step_of t position block).says x.outcome why (step-some t position block) steps.outcome f in
+          let g = turned_away (after_step (step_of t position block).state) (step_of t position block).says why (step-some t position block) f in
           out_by (refused (refusal_number why) 0) n s e
           (replayed_is ∙ ap (λ (a : Answer Event). and_then a (λ y. got (handed_on (step_of t position block).state y))) g) h refl refl
 
       pub replay_room : 7 ≤ length s
       replay_room = omega (arith, state-long s t from_is)
 
-      pub step_taken : (s' e' : List ℕ) → x.outcome ≡ Accepted → s' ≡ sets s 0 (state_image x.state)
+      pub step_taken : (x : Step) (s' e' : List ℕ) → StepIs (step_of t position block) (Ok x) → s' ≡ sets s 0 (state_image x.state)
           → e' ≡ sets e 0 (event_image (more x.state) x.event) → ReplaysOut position block 0 s s' e e'
-      step_taken s' e' f g h =
-          let says : (step_of t position block).says ≡ got x.event =
-          value_is (step_of t position block).says blank_event x.outcome (step-some t position block) steps.outcome f
-          ∙ ap (λ (y : Event). got y) (sym steps.event) in
+      step_taken x s' e' f g h =
+          let v = gives_ok (after_step (step_of t position block).state) (step_of t position block).says x f in
           let a : replayed s position block (length e) ≡ got (handed_on x.state x.event) =
           replayed_is
-          ∙ ap (λ (v : Answer Event). and_then v (λ y. got (handed_on (step_of t position block).state y))) says
-          ∙ ap (λ (u : Replay). got (handed_on u x.event)) (sym steps.state) in
+          ∙ ap (λ (u : Answer Event). and_then u (λ y. got (handed_on (step_of t position block).state y))) v.1.0
+          ∙ ap (λ (y : Step). got (handed_on y.state y.event)) (sym v.1.1) in
           out_by (got (handed_on x.state x.event)) 0 s' e' a refl g h

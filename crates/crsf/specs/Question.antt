@@ -1,5 +1,5 @@
 -- Questions and their answers: the answer's word, and the bytes that are left of the question. Assumes nothing.
-use Rattle.std.specs.Prelude.{ℕ, ◌≡◌, List}
+use Rattle.std.specs.Prelude.{Result, ℕ, ◌≡◌, List}
 use Rattle.codec.specs.Sheet.{Answer, got, refused, and_then}
 use Rattle.images.specs.Popup.{popup_from}
 use Rattle.images.specs.Record.{record_from}
@@ -7,7 +7,8 @@ use Rattle.images.specs.Word.{word}
 use Rattle.questions.specs.Table.{Call, asks, returns, Told, opened, processed, cancelled, expired}
 use Rattle.questions.specs.Kept.{told_reply, reply_to, kept_after, call_of}
 use Rattle.questions.specs.declared.Question.{Question}
-use Rattle.questions.specs.declared.Step.{Step}
+use Rattle.questions.specs.declared.Reason.{Reason}
+use Rattle.questions.specs.declared.Reply.{Reply}
 use Rattle.question_images.specs.Image.{question_image, question_from}
 use Rattle.crsf.specs.Handed.{image_left}
 
@@ -59,5 +60,5 @@ abbrev pub CallsOut : Given → ℕ → List ℕ → List ℕ → Type 0
 CallsOut given r s s' = HandsBack (call_on s (call_in given)) r s s'
 
 -- ---- for the contract of a private function
-abbrev pub step_called : Step → Answer Called
-step_called x = and_then (told_reply x.reply) (λ t. got (called t x.question))
+abbrev pub reply_called : Result Reply Reason → Question → Answer Called
+reply_called r q = and_then (told_reply r) (λ t. got (called t q))

@@ -3,7 +3,7 @@ ghost use Rattle.images.specs.Record.{record_from};
 ghost use Rattle.images.specs.Word.{WritesOut};
 ghost use Rattle.crsf.specs.Handed.{ReadsOut};
 
-use codec::refusal::{Outcome, Refusal};
+use codec::refusal::Refusal;
 use commands::DirectCommands;
 use images::record::RECORD_SIZE;
 use images::word::{ACCEPTED, refused, written};
@@ -15,26 +15,20 @@ pub fn crsf_read(payload: &[u8], image: &mut [u8]) -> u32
     if image.len() < RECORD_SIZE {
         return refused(Refusal::BufferOverflow);
     }
-    let answer = DirectCommands::from_bytes(payload);
-    let outcome = answer.outcome;
-    match outcome {
-        Outcome::Accepted => {
-            let command = answer.command;
+    match DirectCommands::from_bytes(payload) {
+        Ok(command) => {
             images::record::put(command, image);
             ACCEPTED
         }
-        Outcome::Refused(why) => refused(why),
+        Err(why) => refused(why),
     }
 }
 
 pub fn crsf_write(image: &[u8], buffer: &mut [u8]) -> u32
     ensures { WritesOut (record_from image.now) result buffer.old buffer.new }
 {
-    let answer = images::record::from(image);
-    let outcome = answer.outcome;
-    let command = answer.command;
-    match outcome {
-        Outcome::Accepted => written(command.to_bytes(buffer)),
-        Outcome::Refused(why) => refused(why),
+    match images::record::from(image) {
+        Ok(command) => written(command.to_bytes(buffer)),
+        Err(why) => refused(why),
     }
 }

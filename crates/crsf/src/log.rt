@@ -5,20 +5,20 @@ ghost use Rattle.replay_images.specs.State.{state_image};
 ghost use Rattle.replay_images.specs.Event.{event_image};
 ghost use Rattle.crsf.specs.Log.{more, ReplaysOut};
 
-use codec::refusal::{Outcome, Refusal};
+use codec::refusal::Refusal;
 use images::word::{ACCEPTED, refused};
-use replay::{Event, Replay};
+use replay::Step;
 use replay_images::event::EVENT_SIZE;
-use replay_images::state::StateRead;
 
 // The state after a step and its event, into slices that have room for their images.
-fn hand_out(after: Replay, told: Event, replay: &mut [u8], event: &mut [u8])
+fn hand_out(step: Step, replay: &mut [u8], event: &mut [u8])
     requires { (7 ≤ length replay.old) × (80 ≤ length event.old) }
-    ensures replay_after { replay.new ≡ sets replay.old 0 (state_image after) }
-    ensures event_after { event.new ≡ sets event.old 0 (event_image (more after) told) }
+    ensures replay_after { replay.new ≡ sets replay.old 0 (state_image step.state) }
+    ensures event_after { event.new ≡ sets event.old 0 (event_image (more step.state) step.event) }
 {
+    let after = step.state;
     replay_images::state::put(after, replay);
-    replay_images::event::put(told, after.place != 0, event);
+    replay_images::event::put(step.event, after.place != 0, event);
 }
 
 // Too short an event is 3, before all else.
@@ -30,18 +30,14 @@ pub fn crsf_replay(replay: &mut [u8], position: u32, block: &[u8], event: &mut [
         return refused(Refusal::BufferOverflow);
     }
     let state = match replay_images::state::from(replay) {
-        StateRead::Got(state) => state,
-        StateRead::Refused(why) => return refused(why),
+        Ok(state) => state,
+        Err(why) => return refused(why),
     };
-    let step = state.next(position, block);
-    let outcome = step.outcome;
-    let after = step.state;
-    let told = step.event;
-    match outcome {
-        Outcome::Accepted => {
-            hand_out(after, told, replay, event);
+    match state.next(position, block) {
+        Ok(step) => {
+            hand_out(step, replay, event);
             ACCEPTED
         }
-        Outcome::Refused(why) => refused(why),
+        Err(why) => refused(why),
     }
 }

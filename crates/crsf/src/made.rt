@@ -6,7 +6,7 @@ ghost use Rattle.images.specs.Popup.{popup_image};
 ghost use Rattle.images.specs.Fields.{fields_image};
 ghost use Rattle.crsf.specs.Handed.{HandsOut, TextOut, AckOut, PopupOut, FieldsOut};
 
-use codec::refusal::{Outcome, Refusal};
+use codec::refusal::Refusal;
 use families::ack::CommandAck;
 use families::screen::{ScreenPopup, ScreenPopupFields};
 use families::text::CommandString;
@@ -22,16 +22,12 @@ pub fn crsf_text(bytes: &[u8], text: &mut [u8]) -> u32
     if text.len() < TEXT_SIZE {
         return refused(Refusal::BufferOverflow);
     }
-    let answer = CommandString::new(bytes);
-    let outcome = answer.outcome;
-    match outcome {
-        Outcome::Accepted => {
-            let made = answer.text;
-            let stored = made.bytes;
-            images::stored::put(made.len, &stored, text);
+    match CommandString::new(bytes) {
+        Ok(made) => {
+            images::stored::put(made.len, &made.bytes, text);
             ACCEPTED
         }
-        Outcome::Refused(why) => refused(why),
+        Err(why) => refused(why),
     }
 }
 
@@ -48,14 +44,12 @@ pub fn crsf_ack(
     if ack.len() < ACK_SIZE {
         return refused(Refusal::BufferOverflow);
     }
-    let answer = CommandAck::new(command_id, sub_command_id, action, information);
-    let outcome = answer.outcome;
-    match outcome {
-        Outcome::Accepted => {
-            images::ack::put(answer, ack);
+    match CommandAck::new(command_id, sub_command_id, action, information) {
+        Ok(made) => {
+            images::ack::put(made, ack);
             ACCEPTED
         }
-        Outcome::Refused(why) => refused(why),
+        Err(why) => refused(why),
     }
 }
 
@@ -64,16 +58,12 @@ fn make(fields: ScreenPopupFields, popup: &mut [u8]) -> u32
     requires { 56 ≤ length popup.old }
     ensures { HandsOut popup_image (construct fields) result popup.old popup.new }
 {
-    let answer = ScreenPopup::new(fields);
-    let outcome = answer.outcome;
-    match outcome {
-        Outcome::Accepted => {
-            let made = answer.popup;
-            let stored = made.bytes;
-            images::stored::put(made.len, &stored, popup);
+    match ScreenPopup::new(fields) {
+        Ok(made) => {
+            images::stored::put(made.len, &made.bytes, popup);
             ACCEPTED
         }
-        Outcome::Refused(why) => refused(why),
+        Err(why) => refused(why),
     }
 }
 
@@ -83,14 +73,9 @@ pub fn crsf_popup(fields: &[u8], popup: &mut [u8]) -> u32
     if popup.len() < POPUP_SIZE {
         return refused(Refusal::BufferOverflow);
     }
-    let answer = images::fields::from(fields);
-    let outcome = answer.outcome;
-    match outcome {
-        Outcome::Accepted => {
-            let given = answer.fields;
-            make(given, popup)
-        }
-        Outcome::Refused(why) => refused(why),
+    match images::fields::from(fields) {
+        Ok(given) => make(given, popup),
+        Err(why) => refused(why),
     }
 }
 
@@ -99,15 +84,12 @@ fn take_apart(popup: ScreenPopup, fields: &mut [u8]) -> u32
     requires { 268 ≤ length fields.old }
     ensures { HandsOut fields_image (inspect popup) result fields.old fields.new }
 {
-    let answer = popup.fields();
-    let outcome = answer.outcome;
-    match outcome {
-        Outcome::Accepted => {
-            let held = answer.fields;
+    match popup.fields() {
+        Ok(held) => {
             images::fields::put(held, fields);
             ACCEPTED
         }
-        Outcome::Refused(why) => refused(why),
+        Err(why) => refused(why),
     }
 }
 
@@ -117,13 +99,8 @@ pub fn crsf_popup_fields(popup: &[u8], fields: &mut [u8]) -> u32
     if fields.len() < FIELDS_SIZE {
         return refused(Refusal::BufferOverflow);
     }
-    let answer = images::popup::from(popup);
-    let outcome = answer.outcome;
-    match outcome {
-        Outcome::Accepted => {
-            let given = answer.popup;
-            take_apart(given, fields)
-        }
-        Outcome::Refused(why) => refused(why),
+    match images::popup::from(popup) {
+        Ok(given) => take_apart(given, fields),
+        Err(why) => refused(why),
     }
 }

@@ -1,4 +1,5 @@
 -- A turn of the loop over a chunk's parts. Assumes nothing.
+use Rattle.std.specs.Prelude.{Ok}
 use Prim.Native.Nat.{ℕ, suc, ◌+◌, ◌-◌, ◌<◌, ◌≤◌}
 use mathlib.Core.Bool.{false}
 use mathlib.Core.List.{List}
@@ -31,13 +32,13 @@ module _ {room : ℕ} {s₀ s : Listing} {i t t' : List ℕ} {at k : ℕ} {r : P
       record { fits = omega (arith, p.0); bytes = p.1 ∙ ap (λ (n : ℕ). (parts n s₀ i (suc k)).text) (sym l) }
 
   -- where a part ended for want of room, the next one goes on
-  pub part-next : Moves at i r t → longest_text ≤ room → r.stop ≡ Full → SoFar room s₀ i (k + 1) r.state r.at
+  pub part-next : Moves at i r t → longest_text ≤ room → r.stop ≡ Ok Full → SoFar room s₀ i (k + 1) r.state r.at
   part-next m l f =
       rw (add-one k)
       (subst (λ (n : ℕ). SoFar n s₀ i (suc k) r.state r.at) e
       (so_far_turn here h (ap told_stop f) m (omega arith)))
 
-  pub part-less : Moves at i r t → longest_text ≤ room → r.stop ≡ Full → length i - r.at < length i - at
+  pub part-less : Moves at i r t → longest_text ≤ room → r.stop ≡ Ok Full → length i - r.at < length i - at
   part-less m l f = let n = m (omega arith) (ap told_stop f) in omega (arith, n.0, n.1)
 
   -- else it was the chunk's last

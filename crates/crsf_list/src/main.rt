@@ -4,16 +4,15 @@
 // which text it is.
 #![tactic(auto)]
 
-ghost use Rattle.std.specs.Prelude.{◌≤◌, length};
+ghost use Rattle.std.specs.Prelude.{◌≡◌, ◌≤◌, length};
 ghost use Rattle.listing.specs.Chunks.{After};
 ghost use Rattle.listing.specs.Parts.{text_of_closing};
 ghost use Rattle.listing.specs.Text.{longest_text};
 ghost use Rattle.text.specs.Putting.{Front};
 ghost use Rattle.crsf_list.specs.Handed.{part_text, Whole};
 
-use codec::writer::Written;
-use console::{Chunk, Input, Source};
-use listing::{Listed, Listing, Stop};
+use console::{Said, Source};
+use listing::{Listing, Stop};
 
 // `crsf_list: `, 11 bytes, and the longest path of Linux, 4096, behind it.
 const NAME_ROOM: usize = 4107;
@@ -21,20 +20,19 @@ const NAME_ROOM: usize = 4107;
 // So much is read at once, and so much text is written at once.
 const LARGE: usize = 65536;
 
-// What was listed of a chunk: the state behind it, the number of its last part, and whether all of it was written.
+// What was listed of a chunk: the state behind it, and the number of its last part.
 #[derive(Clone, Copy)]
 struct Progress {
     state: Listing,
     last: u64,
-    wrote: bool,
 }
 
 // What failed is said on standard error, and no closing line is written. The exit status is 0 all the same.
-fn write_out(rt: &HostRuntime, text: &[u8]) -> bool {
+fn write_out(rt: &HostRuntime, text: &[u8]) -> Result<(), Said> {
     console::write_out(rt, text, b"crsf_list: standard output")
 }
 
-// Part `turn` of the chunk `input`.
+// Part `turn` of the chunk `input`. (`text` whole, with a length: which part it is depends on all the room.)
 fn write_part(
     rt: &HostRuntime,
     first: Listing,
@@ -42,17 +40,17 @@ fn write_part(
     turn: u64,
     text: &[u8],
     len: usize,
-) -> bool
+) -> Result<(), Said>
     requires { Front len text.now (part_text (length text.now) first input.now turn) }
 {
     write_out(rt, &text[..len])
 }
 
 // The closing line.
-fn write_closing(rt: &HostRuntime, state: Listing, text: &[u8], len: usize) -> bool
-    requires { Front len text.now (text_of_closing state) }
+fn write_closing(rt: &HostRuntime, state: Listing, text: &[u8]) -> Result<(), Said>
+    requires { text.now ≡ text_of_closing state }
 {
-    write_out(rt, &text[..len])
+    write_out(rt, text)
 }
 
 // All lines of a chunk, after so many chunks: nothing waits for the next one.
@@ -62,44 +60,31 @@ fn list_chunk(
     first: Listing,
     input: &[u8],
     text: &mut [u8],
-) -> Progress
+) -> Result<Progress, Said>
     requires { (longest_text ≤ length text.old) × After chunks first }
     ensures { Whole (length text.old) first input.now result }
 {
     let mut state = first;
     let mut at: usize = 0;
     let mut turn: u64 = 0;
+    // no plainer: a range of turns would need an answer behind it, and there is a last part
     loop {
         let part = state.fill(input, at, text);
-        let after = part.state;
-        let stop = part.stop;
-        if !write_part(rt, first, input, turn, text, part.len) {
-            return Progress {
-                state: after,
-                last: turn,
-                wrote: false,
-            };
-        }
-        match stop {
-            Stop::Full => {
-                state = after;
-                at = part.at;
-                turn += 1;
-            }
-            Stop::Used => {
-                return Progress {
-                    state: after,
-                    last: turn,
-                    wrote: true,
-                };
-            }
-            Stop::Refused(_) => {
-                return Progress {
-                    state: after,
-                    last: turn,
-                    wrote: true,
-                };
-            }
+        write_part(rt, first, input, turn, text, part.len)?;
+        let listed = Progress {
+            state: part.state,
+            last: turn,
+        };
+        match part.stop {
+            Ok(stop) => match stop {
+                Stop::Full => {
+                    state = part.state;
+                    at = part.at;
+                    turn += 1;
+                }
+                Stop::Used => return Ok(listed),
+            },
+            Err(_) => return Ok(listed),
         }
     }
 }
@@ -110,62 +95,61 @@ fn put_closing(state: Listing, text: &mut [u8]) -> usize
     ensures { Front result text.new (text_of_closing state) }
 {
     match state.finish() {
-        Listed::Line(line) => match listing::line::render(line, text) {
-            Written::Count(len) => len,
-            Written::Refused(_) => 0,
+        Ok(line) => match listing::line::render(line, text) {
+            Ok(len) => len,
+            Err(_) => 0,
         },
-        Listed::Nothing => 0,
-        Listed::Refused(_) => 0,
+        Err(_) => 0,
     }
 }
 
 // The input has ended, after so many chunks.
-fn close(rt: &HostRuntime, chunks: u64, state: Listing, text: &mut [u8])
+fn close(rt: &HostRuntime, chunks: u64, state: Listing, text: &mut [u8]) -> Result<(), Said>
     requires { (longest_text ≤ length text.old) × After chunks state }
 {
     let len = put_closing(state, text);
-    write_closing(rt, state, text, len);
+    write_closing(rt, state, &text[..len])
 }
 
 // A proved loop has to end, and nothing says that the input does: no input has as many chunks as this loop has turns.
-fn list_all(rt: &HostRuntime, source: &mut Source, name: &[u8], input: &mut [u8], text: &mut [u8])
+fn list_all(
+    rt: &HostRuntime,
+    source: &mut Source,
+    name: &[u8],
+    input: &mut [u8],
+    text: &mut [u8],
+) -> Result<(), Said>
     requires { longest_text ≤ length text.old }
 {
     let mut state = Listing::new();
     for chunks in 0..u64::MAX {
-        let count = match console::read(rt, source, name, input) {
-            Chunk::Bytes(count) => count,
-            Chunk::End => {
-                close(rt, chunks, state, text);
-                return;
-            }
-            Chunk::Failed => return,
+        let Some(count) = console::read(rt, source, name, input)? else {
+            return close(rt, chunks, state, text);
         };
-        let progress = list_chunk(rt, chunks, state, &input[..count], text);
-        if !progress.wrote {
-            return;
-        }
-        state = progress.state;
+        state = list_chunk(rt, chunks, state, &input[..count], text)?.state;
     }
+    Ok(())
 }
 
 // What is read, with its name in an error.
-fn list(rt: &HostRuntime, source: &mut Source, name: &[u8]) {
+fn list(rt: &HostRuntime, source: &mut Source, name: &[u8]) -> Result<(), Said> {
     let mut input = [0u8; LARGE];
     let mut text = [0u8; LARGE];
-    list_all(rt, source, name, &mut input, &mut text);
+    list_all(rt, source, name, &mut input, &mut text)
 }
 
-fn main(rt: HostRuntime) {
+// The input that the argument names.
+fn run(rt: &HostRuntime) -> Result<(), Said> {
     let mut name = [0u8; NAME_ROOM];
-    let opened = console::open_input(
-        &rt,
+    let mut opened = console::open_input(
+        rt,
         b"crsf_list",
         b"usage: crsf_list [FILE]\nLists the recording FILE; standard input without FILE, or where it is -.\n",
         &mut name,
-    );
-    let Input::Opened { mut source, len } = opened else {
-        return;
-    };
-    list(&rt, &mut source, &name[..len]);
+    )?;
+    list(rt, &mut opened.source, &name[..opened.len])
+}
+
+fn main(rt: HostRuntime) {
+    let _ = run(&rt);
 }

@@ -7,6 +7,7 @@ use native.Mathlib.Omega.{arith}
 use lib.ListN.{length, drop, get_or, length-append, length-drop}
 use lib.Seq.{length-take-le}
 use borrow.Author.Tests.{lt-ltb, le-ltb}
+use Rattle.std.specs.Prelude.{Some, None}
 use Rattle.crc.specs.Check.{Bytes}
 use Rattle.crc.proofs.Laws.{bytes_take}
 use Rattle.codec.specs.Pick.{pick}
@@ -27,7 +28,7 @@ use Rattle.commands.proofs.Promised.{Sound, sound_back, sound-bytes}
 use Rattle.edits.specs.Fields.{spot}
 use Rattle.edits.specs.Record.{sub_of, items_in, values_in}
 use Rattle.edits.specs.Edit.{with_field, set_field, edit_command, bytes_left, EditIs}
-use Rattle.edits.specs.Table.{Entry, near_item, far_item, origin_at, located, row_for, InPayload, is_among}
+use Rattle.edits.specs.Table.{Entry, near_item, far_item, origin_at, located, row_for, InPayload}
 use Rattle.edits.specs.Change.{held, FieldTakes, changed}
 use Rattle.edits.specs.Opened.{ServesAs, Serves, Opened, Applies}
 use Rattle.edits.specs.declared.table.FieldRow.{FieldRow}
@@ -35,7 +36,7 @@ use Rattle.edits.specs.declared.layout.Layout.{Layout}
 use Rattle.edits.proofs.With.{Free, Changed, spot_free, with_field_lem}
 use Rattle.edits.proofs.Step.{payload-closed, low_bits, field_place, field_width, top, field_room, parts, stepped}
 use Rattle.edits.proofs.Served.{Found, found, set_found, set_none, field_found}
-use Rattle.edits.proofs.Search.{Fine, row_in_lem, row_out}
+use Rattle.edits.proofs.Search.{Fine, row-some, row-none}
 
 -- ---- on an open payload an edit is the command's
 pub edit-opened : (p : List ℕ) (c : DirectCommands) (f n : ℕ) → Sound c → p ≡ payload_of c → edit_command p f n ≡ set_field c f n
@@ -116,28 +117,22 @@ module _ {p : List ℕ} {s : Layout} (f n : ℕ) (o : Opened p s) where
       (omega (arith, l, k, a, o.served.near), omega (arith, l, k, b, o.served.far))
 
   -- none
-  pub answers_none : (r : FieldRow) → r ≡ row_for f s.near s.far → is_among r.index s.first s.end ≡ false → EditIs f n 7 p p
-  answers_none r is h =
-      let g = row_out f s.near s.far s.first s.end (rw is at h) in
-      let e = edit-opened p c f n o.sound o.written ∙ set_none f o.sound o.served n g in
+  pub answers_none : None ≡ row_for f s → EditIs f n 7 p p
+  answers_none h =
+      let e = edit-opened p c f n o.sound o.written ∙ set_none f o.sound o.served n (row-none f s h) in
       (sym (ap number_in e), sym (ap (bytes_left p) e))
 
   -- a row of the command: the entry behind it
   pub record Row (r : FieldRow) : Type 0 where
     pub entry : Entry
-    pub told : r ≡ located r.index entry s.near s.far
+    pub told : r ≡ located entry s.near s.far
     pub fine : Fine entry
     pub found : Found c s f entry
 
-  pub row_of_lem : (r : FieldRow) → r ≡ row_for f s.near s.far → is_among r.index s.first s.end ≡ true → Row r
-  row_of_lem r is h =
-      let g = row_in_lem f s.near s.far s.first s.end o.served.within (rw is at h) in
-      record {
-        entry = g.0;
-        told = is ∙ g.1.1.0 ∙ ap (λ (x : FieldRow). located x.index g.0 s.near s.far) (sym is);
-        fine = g.1.1.1;
-        found = found f o.sound o.served g.0 g.1.0;
-      }
+  pub row_of_lem : (r : FieldRow) → Some r ≡ row_for f s → Row r
+  row_of_lem r h =
+      let g = row-some f s r h in
+      record { entry = g.0; told = g.1.1.0; fine = g.1.1.1; found = found f o.sound o.served g.0 g.1.0 }
 
   module _ {r : FieldRow} (w : Row r) where
     -- the field, its range, and the command with it set

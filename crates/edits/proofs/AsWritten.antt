@@ -1,4 +1,5 @@
 -- A payload as the writer makes it is served by the layout that the code finds; what is read of any other is refused. Assumes nothing.
+use Rattle.std.specs.Prelude.{Result, Ok, Err}
 use Prim.Native.Nat.{ℕ, suc, ◌+◌, ◌<◌, ◌≤◌}
 use mathlib.Core.Bool.{Bool, true, false}
 use mathlib.Core.List.{List, [], ◌∷◌, ◌++◌, append_assoc}
@@ -45,7 +46,6 @@ use Rattle.commands.specs.Kind.{kind, kind_of, read_kind, told_kind}
 use Rattle.commands.specs.Writing.{payload_of}
 use Rattle.commands.specs.declared.DirectCommands.{DirectCommands}
 use Rattle.commands.specs.declared.kind.KindRead.{KindRead}
-use Rattle.commands.specs.declared.kind.KindRead.TheVariants.{Got as GotKind, Refused as RefusedKind}
 use Rattle.commands.proofs.Forth.{read_writable}
 use Rattle.commands.proofs.Promised.{Sound, items_laid, sound-laid, PitClear, written_clear, read_sound, as_written}
 use Rattle.edits.specs.Record.{sub_of, stored_with, popup_with}
@@ -54,8 +54,6 @@ use Rattle.edits.specs.Table.{near_item, far_item}
 use Rattle.edits.specs.Layout.{vtx_layout, place_after, after_text, shown, selection, popup_from, popup_layout, layout_for}
 use Rattle.edits.specs.Opened.{ServesAs, Serves, vtx_pit, has_pit, fitting, unset, vtx_opening, Opens, OpensRead}
 use Rattle.edits.specs.declared.layout.Layout.{Layout}
-use Rattle.edits.specs.declared.opening.Opening.{Opening}
-use Rattle.edits.specs.declared.opening.Opening.TheVariants.{Got, Refused}
 use Rattle.edits.proofs.Held.{popup-held, NoPopup, held}
 use Rattle.edits.proofs.With.{popup-kept, stored_same, length_is}
 use Rattle.edits.proofs.Places.{popup-selection, popup-shown}
@@ -416,18 +414,18 @@ module _ (q : CommandPayload) (n : ℕ) (p : List ℕ) (s : Layout) (d : s ≡ l
       ap (λ (r : Layout). r.size) u ∙ size_is c (read_sound p c y h) p
 
   -- of another length
-  judged_longer : (length p ≡ s.size → ⊥) → OpensRead q n p (Refused NotAsWritten)
+  judged_longer : (length p ≡ s.size → ⊥) → OpensRead q n p (Err NotAsWritten)
   judged_longer g c e f h = differs p c h (λ i. g (ap length i ∙ sym (size_read c e f h)))
 
   -- bit 7 of a pit byte set
-  judged-set : has_pit q ≡ true → 127 < get_or p 4 0 → OpensRead q n p (Refused NotAsWritten)
+  judged-set : has_pit q ≡ true → 127 < get_or p 4 0 → OpensRead q n p (Err NotAsWritten)
   judged-set t g c e f h =
       let k : PitClear q (payload_of c) = subst (λ (r : CommandPayload). PitClear r (payload_of c)) e
       (written_clear c (read_sound p c y h)) in
       differs p c h (λ i. let l : get_or p 4 0 < 128 = (pit-of q p t).1.0 (subst (PitClear q) (sym i) k) in omega arith)
 
   -- as written
-  judged_good : length p ≡ s.size → (has_pit q ≡ false) ⊎ (get_or p 4 0 < 128) → OpensRead q n p (Got s)
+  judged_good : length p ≡ s.size → (has_pit q ≡ false) ⊎ (get_or p 4 0 < 128) → OpensRead q n p (Ok s)
   judged_good l g c e f h =
       let z = read_sound p c y h in
       let u : layout_for c.payload c.len p ≡ s = rw (e, f) (sym d) in
@@ -439,22 +437,22 @@ module _ (q : CommandPayload) (n : ℕ) (p : List ℕ) (s : Layout) (d : s ≡ l
   judged-fits : (has_pit q ≡ false) ⊎ (get_or p 4 0 < 128) → OpensRead q n p (fitting s (length p))
   judged-fits g = by (eqb (length p) s.size) refl
     where
-      by : (t : Bool) → eqb (length p) s.size ≡ t → OpensRead q n p (pick t (Got s) (Refused NotAsWritten))
+      by : (t : Bool) → eqb (length p) s.size ≡ t → OpensRead q n p (pick t (Ok s) (Err NotAsWritten))
       by true e = judged_good (eqb-true (length p) s.size e) g
       by false e = judged_longer (eqb-false (length p) s.size e)
 
 -- the code's answer, of a command that has no pit byte
-pub judged : (q k : CommandPayload) (n : ℕ) (p : List ℕ) (s : Layout) (r : Opening) → q ≡ k → s ≡ layout_for k n p
+pub judged : (q k : CommandPayload) (n : ℕ) (p : List ℕ) (s : Layout) (r : Result Layout Refusal) → q ≡ k → s ≡ layout_for k n p
     → has_pit k ≡ false → Bytes p
     → r ≡ fitting s (length p) → OpensRead q n p r
 judged q k n p s r e d f y g = rw (e, g) (judged-fits k n p s d y (inl f))
 
 -- ---- of a VTX command: bit 7 of a pit byte is set, or not
-pub unset_set : (c : VtxCommand) (p : List ℕ) (o : Opening) → vtx_pit c ≡ true → 4 < length p → 127 < get_or p 4 0
-    → Refused NotAsWritten ≡ unset c p o
+pub unset_set : (c : VtxCommand) (p : List ℕ) (o : Result Layout Refusal) → vtx_pit c ≡ true → 4 < length p → 127 < get_or p 4 0
+    → Err NotAsWritten ≡ unset c p o
 unset_set c p o h i j = rw (h, lt-ltb 4 (length p) i, lt-ltb 127 (get_or p 4 0) j)
 
-pub unset_clear : (c : VtxCommand) (p : List ℕ) (o : Opening) → (get_or p 4 0 ≤ 127) ⊎ ((length p ≤ 4) ⊎ (vtx_pit c ≡ false)) → o ≡ unset c p o
+pub unset_clear : (c : VtxCommand) (p : List ℕ) (o : Result Layout Refusal) → (get_or p 4 0 ≤ 127) ⊎ ((length p ≤ 4) ⊎ (vtx_pit c ≡ false)) → o ≡ unset c p o
 unset_clear c p o (inl h) = rw (le-ltb 127 (get_or p 4 0) h) (by (vtx_pit c) (ltb 4 (length p)))
   where
     by : (t u : Bool) → o ≡ pick t (pick u o o) o
@@ -468,18 +466,18 @@ unset_clear c p o (inr (inl h)) = rw (le-ltb 4 (length p) h) (by (vtx_pit c))
     by false = refl
 unset_clear c p o (inr (inr h)) = rw h
 
-pub judged_vtx : (q : CommandPayload) (c : VtxCommand) (n : ℕ) (p : List ℕ) (r : Opening) → q ≡ Vtx c → Bytes p
+pub judged_vtx : (q : CommandPayload) (c : VtxCommand) (n : ℕ) (p : List ℕ) (r : Result Layout Refusal) → q ≡ Vtx c → Bytes p
     → r ≡ vtx_opening c p → OpensRead q n p r
 judged_vtx q c n p r e y g = rw (e, g) (by (vtx_pit c) (ltb 4 (length p)) (ltb 127 (get_or p 4 0)) refl refl refl)
   where
-    fit : Opening
+    fit : Result Layout Refusal
     fit = fitting (vtx_layout c) (length p)
 
     low : (has_pit (Vtx c) ≡ false) ⊎ (get_or p 4 0 < 128) → OpensRead (Vtx c) n p fit
     low = judged-fits (Vtx c) n p (vtx_layout c) refl y
 
     by : (t u v : Bool) → vtx_pit c ≡ t → ltb 4 (length p) ≡ u → ltb 127 (get_or p 4 0) ≡ v
-        → OpensRead (Vtx c) n p (pick t (pick u (pick v (Refused NotAsWritten) fit) fit) fit)
+        → OpensRead (Vtx c) n p (pick t (pick u (pick v (Err NotAsWritten) fit) fit) fit)
     by true true true h i j = judged-set (Vtx c) n p (vtx_layout c) refl y h (ltb-true 127 (get_or p 4 0) j)
     by true true false h i j = low (inr (let l = ltb-false 127 (get_or p 4 0) j in omega (arith, l)))
     by true false v h i j = low (inr (let l = get_or-eq_default p 0 (ltb-false 4 (length p) i) in omega (arith, l)))
@@ -487,7 +485,7 @@ judged_vtx q c n p r e y g = rw (e, g) (by (vtx_pit c) (ltb 4 (length p)) (ltb 1
 
 -- ---- reading, then judging
 -- the command whose kind was told
-read_as_lem : (p : List ℕ) (x : KindRead) (q : CommandPayload) (n : ℕ) → told_kind x ≡ read_kind p → x ≡ GotKind q n
+read_as_lem : (p : List ℕ) (x : Result KindRead Refusal) (q : CommandPayload) (n : ℕ) → told_kind x ≡ read_kind p → x ≡ Ok (record { payload = q; len = n })
     → (c : DirectCommands) × ((c.payload ≡ q) × ((c.len ≡ n) × (read_command p ≡ got c)))
 read_as_lem p x q n h e =
     let t : got (kind q n) ≡ read_kind p = rw e at h in
@@ -497,21 +495,21 @@ read_as_lem p x q n h e =
     (c, (cc, (cc, g.1.0)))
 
 -- the stored bytes have room in what was read
-pub read_room : (p : List ℕ) (x : KindRead) (q : CommandPayload) (n : ℕ) → Bytes p → told_kind x ≡ read_kind p
-    → x ≡ GotKind q n → n + 4 ≤ length p
+pub read_room : (p : List ℕ) (x : Result KindRead Refusal) (q : CommandPayload) (n : ℕ) → Bytes p → told_kind x ≡ read_kind p
+    → x ≡ Ok (record { payload = q; len = n }) → n + 4 ≤ length p
 read_room p x q n y h e =
     let g = read_as_lem p x q n h e in
     let c = g.0 in
     let r = stored-room c (read_sound p c y g.1.1.1) in
     omega (arith, r, (read_writable p c y g.1.1.1).1.0, g.1.1.0)
 
-pub opens-judged : (p : List ℕ) (x : KindRead) (q : CommandPayload) (n : ℕ) (r : Opening) → told_kind x ≡ read_kind p
-    → x ≡ GotKind q n → OpensRead q n p r
+pub opens-judged : (p : List ℕ) (x : Result KindRead Refusal) (q : CommandPayload) (n : ℕ) (r : Result Layout Refusal) → told_kind x ≡ read_kind p
+    → x ≡ Ok (record { payload = q; len = n }) → OpensRead q n p r
     → Opens p r
 opens-judged p x q n r h e j = let g = read_as_lem p x q n h e in j g.0 g.1.0 g.1.1.0 g.1.1.1
 
 -- the reader's refusal
-pub opens-refused : (p : List ℕ) (x : KindRead) (why : Refusal) → told_kind x ≡ read_kind p → x ≡ RefusedKind why → Opens p (Refused why)
+pub opens-refused : (p : List ℕ) (x : Result KindRead Refusal) (why : Refusal) → told_kind x ≡ read_kind p → x ≡ Err why → Opens p (Err why)
 opens-refused p x why h e = by (read_command p) (rw e at h)
   where
     by : (a : Answer DirectCommands) → refused (refusal_number why) 0 ≡ and_then a (λ c. got (kind_of c))

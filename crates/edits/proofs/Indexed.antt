@@ -1,98 +1,113 @@
--- The index of a field's row, as the code's search finds it, and the row of an index. Assumes nothing.
-use Prim.Native.Nat.{ℕ, zero, suc, ◌+◌, ◌<◌, ◌≤◌}
+-- The rows of the code's table, and the index of a field's. Assumes nothing.
+use Prim.Native.Nat.{ℕ, zero, suc, ◌+◌, ◌<◌, ◌≤◌, ◌^◌}
 use mathlib.Core.Bool.{Bool, true, false}
 use mathlib.Core.List.{List, [], ◌∷◌, map}
-use mathlib.Core.Logic.{◌⊎◌, inl, inr}
-use mathlib.Core.Path.{◌≡◌, refl, ap, sym, ◌∙◌}
+use mathlib.Core.Path.{◌≡◌, refl, ap, ap₂, sym, ◌∙◌}
 use native.Mathlib.Omega.{arith}
-use lib.ListN.{length, drop, get_or}
-use lib.Dec.{ltb, eqb}
-use borrow.Author.Tests.{lt-ltb, le-ltb, eq-eqb, ne_eqb}
+use lib.ListN.{length, get_or}
+use lib.Dec.{leb, ltb, eqb}
+use borrow.Author.Tests.{leb-true}
+use Rattle.std.specs.List.{position_or_len}
+use Rattle.std.specs.Prelude.{Some, None, cond, not, position}
 use Rattle.codec.specs.Pick.{pick}
-use Rattle.edits.specs.Table.{Entry, table, row_numbers, no_row, no_field_row, located, row_in, row_for, index_in, index_for, row_at}
+use Rattle.codec.proofs.Back.{both}
+use Rattle.edits.specs.Table.{Origin, Start, Near, Far, Entry, entry_with, table, no_row, origin_at, located, place_from, place_in, row_from, InPayload, index_found, no_line}
+use Rattle.edits.specs.declared.table.Place.{Place}
+use Rattle.edits.specs.declared.table.Place.TheVariants.{Start as AtStart, Near as AtNear, Far as AtFar}
 use Rattle.edits.specs.declared.table.Field.{Field}
 use Rattle.edits.specs.declared.table.FieldRow.{FieldRow}
+use Rattle.edits.specs.declared.table.TheConstants.{FIELDS}
 
--- ---- the search, one row at a time
--- the numbers of the code's table
-abbrev pub firsts : List Field → List ℕ
-firsts t = map (λ (x : Field). x.0) t
+-- ---- a row of the code's table as an entry
+abbrev origin_in : Place → Origin
+origin_in (AtStart n) = Start
+origin_in (AtNear n) = Near
+origin_in (AtFar n) = Far
 
-at_first : (t : List Field) (k : ℕ) (d : Field) → k < length (firsts t) → get_or (firsts t) k 0 ≡ (get_or t k d).0
-at_first [] k d h = absurd (omega arith)
-at_first (x ∷ t) zero d h = refl
-at_first (x ∷ t) (suc k) d h = at_first t k d (omega arith)
+abbrev behind : Place → ℕ
+behind (AtStart n) = n
+behind (AtNear n) = n
+behind (AtFar n) = n
 
-hit : (l : List Entry) (k i f : ℕ) → k < length (row_numbers l) → get_or (row_numbers l) k 0 ≡ f → index_in (drop k l) i f ≡ i
-hit [] k i f a h = absurd (omega arith)
-hit (e ∷ l) zero i f a h = rw (eq-eqb f e.number (sym h))
-hit (e ∷ l) (suc k) i f a h = hit l k i f (omega arith) h
+abbrev pub entry_in : Field → Entry
+entry_in x = entry_with x.0 x.1 x.2 x.3 (behind x.4) (origin_in x.4) x.5 x.6
 
-miss : (l : List Entry) (k i f : ℕ) → k < length (row_numbers l) → (get_or (row_numbers l) k 0 ≡ f → ⊥)
-    → index_in (drop k l) i f ≡ index_in (drop (suc k) l) (i + 1) f
-miss [] k i f a h = absurd (omega arith)
-miss (e ∷ l) zero i f a h = rw (ne_eqb f e.number (λ g. h (sym g)))
-miss (e ∷ l) (suc k) i f a h = miss l k i f (omega arith) h
+place_is : (p : Place) (near far : ℕ) → place_from p near far ≡ origin_at (origin_in p) near far + behind p
+place_is (AtStart n) near far = omega arith
+place_is (AtNear n) near far = refl
+place_is (AtFar n) near far = refl
 
--- the code's table has the numbers of the table
-pub record Same (t : List Field) : Type 0 where
-  pub same : firsts t ≡ row_numbers table
+row_in : (x : Field) (near far : ℕ) → row_from x near far ≡ located (entry_in x) near far
+row_in x near far = rw (place_is x.4 near far)
 
-abbrev pub blank : Field
-blank = record { 0 = 0; 1 = 0; 2 = 0; 3 = 0; 4 = 0; 5 = 0; 6 = 0; 7 = 0 }
+at_entry : (t : List Field) (k : ℕ) (d : Field) → k < length t → entry_in (get_or t k d) ≡ get_or (map entry_in t) k no_row
+at_entry [] k d h = absurd (omega arith)
+at_entry (x ∷ t) zero d h = refl
+at_entry (x ∷ t) (suc k) d h = at_entry t k d (omega arith)
 
-number_at_lem : {t : List Field} → Same t → (i : ℕ) → i < 32 → get_or (row_numbers table) i 0 ≡ (get_or t i blank).0
-number_at_lem {t = t} s i a =
-    let b : i < length (firsts t) = rw s.same a in
-    sym (ap (λ (l : List ℕ). get_or l i 0) s.same) ∙ at_first t i blank b
+-- ---- the code's table is the table
+fields_same : map entry_in FIELDS ≡ table
+fields_same = refl
 
-pub found : {t : List Field} → Same t → (f i : ℕ) → i < 32 → index_for f ≡ index_in (drop i table) i f
-    → (get_or t i blank).0 ≡ f → i ≡ index_for f
-found s f i a g h = sym (g ∙ hit table i i f a (number_at_lem s i a ∙ h))
+pub row_at_lem : (k : ℕ) (d : Field) (near far : ℕ) → k < 32
+    → row_from (get_or FIELDS k d) near far ≡ located (get_or table k no_row) near far
+row_at_lem k d near far h =
+    row_in (get_or FIELDS k d) near far
+    ∙ ap (λ (e : Entry). located e near far) (at_entry FIELDS k d h ∙ ap (λ (l : List Entry). get_or l k no_row) fields_same)
 
-pub further : {t : List Field} → Same t → (f i : ℕ) → i < 32 → index_for f ≡ index_in (drop i table) i f → ((get_or t i blank).0 ≡ f → ⊥)
-    → index_for f ≡ index_in (drop (i + 1) table) (i + 1) f
-further s f i a g h =
-    let z : suc i ≡ i + 1 = omega arith in
-    g ∙ miss table i i f a (λ x. h (sym (number_at_lem s i a) ∙ x)) ∙ ap (λ (x : ℕ). index_in (drop x table) (i + 1) f) z
+-- ---- every place is small
+abbrev small : List Entry → Bool
+small [] = true
+small (e ∷ l) = pick (leb e.place 60) (small l) false
 
-pub ended : (f i : ℕ) → i ≡ 32 → index_in (drop i table) i f ≡ 32
-ended f i e = rw e
+small-at : (l : List Entry) (k : ℕ) → small l ≡ true → (get_or l k no_row).place ≤ 60
+small-at [] k h = omega arith
+small-at (e ∷ l) zero h = leb-true e.place 60 (both (leb e.place 60) (small l) h).0
+small-at (e ∷ l) (suc k) h = small-at l k (both (leb e.place 60) (small l) h).1
 
--- ---- the row of the index that was found
-abbrev Row-of : ℕ → ℕ → ℕ → ℕ → List Entry → ℕ → FieldRow → Type 0
-Row-of f near far i l j r =
-    ((k : ℕ) × ((k < length l) × ((j ≡ i + k) × (r ≡ located (i + k) (get_or l k no_row) near far)))) ⊎ ((j ≡ i + length l) × (r ≡ no_field_row))
+small-table : small table ≡ true
+small-table = refl
 
-row_of_lem : (f near far i : ℕ) (l : List Entry) → Row-of f near far i l (index_in l i f) (row_in l i f near far)
-row_of_lem f near far i [] = inr (omega arith, refl)
-row_of_lem f near far i (e ∷ l) = by (eqb f e.number) (row_of_lem f near far (i + 1) l)
-  where
-    on : (j : ℕ) (r : FieldRow) → Row-of f near far (i + 1) l j r → Row-of f near far i (e ∷ l) j r
-    on j r (inl (k, (a, (b, c)))) =
-        let m : i + 1 + k ≡ i + suc k = omega arith in
-        inl (suc k, (omega arith, (b ∙ m, c ∙ ap (λ (x : ℕ). located x (get_or l k no_row) near far) m)))
-    on j r (inr (a, b)) = inr (omega arith, b)
+near_far : (o : Origin) (near far : ℕ) → InPayload near → InPayload far → origin_at o near far ≤ 60
+near_far Start near far a b = omega arith
+near_far Near near far a b = a
+near_far Far near far a b = b
 
-    by : (t : Bool) → Row-of f near far (i + 1) l (index_in l (i + 1) f) (row_in l (i + 1) f near far)
-        → Row-of f near far i (e ∷ l) (pick t i (index_in l (i + 1) f)) (pick t (located i e near far) (row_in l (i + 1) f near far))
-    by true go =
-        let m : i ≡ i + 0 = omega arith in
-        inl (0, (omega arith, (m, ap (λ (x : ℕ). located x e near far) m)))
-    by false go = on (index_in l (i + 1) f) (row_in l (i + 1) f near far) go
+pub place_small : (k : ℕ) (d : Field) (near far : ℕ) → k < 32 → InPayload near → InPayload far → place_in (get_or FIELDS k d) near far < 2 ^ 64
+place_small k d near far h a b =
+    let e = get_or table k no_row in
+    let g : place_in (get_or FIELDS k d) near far ≡ origin_at e.origin near far + e.place = ap (λ (x : FieldRow). x.place) (row_at_lem k d near far h) in
+    let l = near_far e.origin near far a b in
+    let m = small-at table k small-table in
+    omega (arith, g, l, m)
 
-row_told : (near far j : ℕ) (r : FieldRow) (f : ℕ) → Row-of f near far 0 table j r → row_at j near far ≡ r
-row_told near far j r f (inl (k, (a, (b, c)))) =
-    let z : 0 + k ≡ k = omega arith in
-    let h : j ≡ k = b ∙ z in
-    let q : ltb k 32 ≡ true = lt-ltb k 32 a in
-    rw (h, q) (sym (c ∙ ap (λ (x : ℕ). located x (get_or table k no_row) near far) z))
-row_told near far j r f (inr (a, b)) = rw a (sym b)
+-- ---- the search by number
+abbrev pub code_has : ℕ → Field → Bool
+code_has f x = eqb x.0 f
 
-pub row-at : (near far f : ℕ) {i : ℕ} → i ≡ index_for f → row_at i near far ≡ row_for f near far
-row-at near far f e = ap (λ (x : ℕ). row_at x near far) e ∙ row_told near far (index_for f) (row_for f near far) f (row_of_lem f near far 0 table)
+abbrev has : ℕ → Entry → Bool
+has f e = eqb e.number f
 
--- ---- the last arm of a match on the index: none of those below 32
+length_same : (t : List Field) → length t ≡ length (map entry_in t)
+length_same [] = refl
+length_same (x ∷ t) = ap suc (length_same t)
+
+first_same : (f : ℕ) (t : List Field) → position_or_len (code_has f) t ≡ position_or_len (has f) (map entry_in t)
+first_same f [] = refl
+first_same f (x ∷ t) = ap (λ (n : ℕ). cond (not (eqb x.0 f)) (1 + n) 0) (first_same f t)
+
+position_same : (f : ℕ) (t : List Field) → position (code_has f) t ≡ position (has f) (map entry_in t)
+position_same f t =
+    ap₂ (λ (m n : ℕ). cond (ltb m n) (Some m) None) (first_same f t) (length_same t)
+
+pub found_same : (f : ℕ) → position (code_has f) FIELDS ≡ index_found f
+found_same f = position_same f FIELDS ∙ ap (λ (l : List Entry). position (has f) l) fields_same
+
+-- ---- a line by a match on its index
+pub line_at : {i k : ℕ} → i ≡ k → get_or FIELDS k no_line ≡ get_or FIELDS i no_line
+line_at h = ap (λ (n : ℕ). get_or FIELDS n no_line) (sym h)
+
+-- the last arm: none of those below
 abbrev pub NoneFrom : ℕ → ℕ → ℕ → Type 0 → Type 0
 NoneFrom i k zero A = A
 NoneFrom i k (suc n) A = NoneFrom i (k + 1) n (A × (i ≡ k → ⊥))
@@ -108,5 +123,8 @@ none_from i k (suc n) A h a =
     let b : k + 1 + n ≤ i = none_from i (k + 1) n (A × (i ≡ k → ⊥)) h (omega (arith, ne)) in
     omega arith
 
-pub at_none : (i near far : ℕ) → NoneFrom i 0 32 (Unit {0}) → row_at i near far ≡ no_field_row
-at_none i near far h = let b : 0 + 32 ≤ i = none_from i 0 32 (Unit {0}) h (omega arith) in rw (le-ltb i 32 b)
+pub last_line : (i : ℕ) → i < 32 → NoneFrom i 0 31 (Unit {0}) → get_or FIELDS 31 no_line ≡ get_or FIELDS i no_line
+last_line i l h =
+    let b : 0 + 31 ≤ i = none_from i 0 31 (Unit {0}) h (omega arith) in
+    let e : i ≡ 31 = omega arith in
+    line_at e

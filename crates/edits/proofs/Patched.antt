@@ -1,4 +1,5 @@
 -- A number put into its field where it stands, and the check renewed: what the code reads and stores. Assumes nothing.
+use Rattle.std.specs.Prelude.{Result, Ok, Err}
 use Prim.Native.Nat.{ℕ, suc, ◌+◌, ◌-◌, ◌*◌, ◌/◌, ◌%◌, ◌^◌, ◌<◌, ◌≤◌}
 use mathlib.Core.List.{List, [], ◌∷◌}
 use mathlib.Core.Path.{◌≡◌, refl, sym, ap, ◌∙◌}
@@ -19,8 +20,6 @@ use Rattle.codec.specs.Writing.{put_at}
 use Rattle.codec.specs.Edit.{replaced}
 use Rattle.codec.specs.Told.{told_number}
 use Rattle.codec.specs.declared.refusal.Refusal.{Refusal}
-use Rattle.codec.specs.declared.reader.NumberRead.{NumberRead}
-use Rattle.codec.specs.declared.reader.NumberRead.TheVariants.{Got, Refused}
 use Rattle.codec.proofs.Digits.{length-bytes_of}
 use Rattle.codec.proofs.Forth.{bytes_drop, bytes-number}
 use Rattle.codec.proofs.Items.{number_is_lem}
@@ -43,12 +42,12 @@ module _ (s : List ℕ) (at v w : ℕ) (y : Bytes s) (e : v ≡ w) (l : w ≤ 4)
       let k : n < 2 ^ 32 = lt_of_lt_of_le b (pow_mono q) in
       rw (e, number_is_lem w 0 4294967295 s at n (omega arith) (refl, b), le-ltb n 0 (omega arith), le-ltb 4294967295 n (omega arith))
 
-  pub number-held : (r : NumberRead) (x : ℕ) → r ≡ Got x → told_number r ≡ read_item (number v 0 4294967295) (drop at s)
+  pub number-held : (r : Result ℕ Refusal) (x : ℕ) → r ≡ Ok x → told_number r ≡ read_item (number v 0 4294967295) (drop at s)
       → x ≡ number_of (held s at w)
   number-held r x f t =
       let g : got (x ∷ []) ≡ got (number_of (held s at w) ∷ []) = (rw f at t) ∙ number-got in cc
 
-  pub never_refused : (r : NumberRead) (k : Refusal) → r ≡ Refused k → told_number r ≡ read_item (number v 0 4294967295) (drop at s) → ⊥
+  pub never_refused : (r : Result ℕ Refusal) (k : Refusal) → r ≡ Err k → told_number r ≡ read_item (number v 0 4294967295) (drop at s) → ⊥
   never_refused r k f t =
       let g = (rw f at t) ∙ number-got in
       let z : ◌≡◌ {A = ℕ} 0 1 = cc in omega arith

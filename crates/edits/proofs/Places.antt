@@ -1,12 +1,12 @@
--- Places in a payload as the code finds them, numbers of four bytes, and one answer put many times. Assumes nothing.
-use Prim.Native.Nat.{ℕ, suc, ◌+◌, ◌-◌, ◌<◌, ◌≤◌}
+-- Places in a payload as the code finds them, and numbers of four bytes. Assumes nothing.
+use Rattle.std.specs.Prelude.{Result, Ok, Err}
+use Prim.Native.Nat.{ℕ, ◌+◌, ◌<◌, ◌≤◌}
 use mathlib.Core.List.{List, [], ◌∷◌}
 use mathlib.Core.Logic.{◌⊎◌, inl, inr}
 use mathlib.Core.Path.{◌≡◌, refl, ap, sym, ◌∙◌}
 use native.Mathlib.Omega.{arith}
-use native.Mathlib.Numerals.{add-one}
-use lib.ListN.{length, take, drop, get_or, set, replicate, length-drop}
-use lib.Seq.{sets, length-take-le}
+use lib.ListN.{length, take, drop, get_or, length-drop}
+use lib.Seq.{length-take-le}
 use borrow.Author.Tests.{le-ltb, lt-ltb, eq-eqb, ne_eqb}
 use Rattle.crc.specs.Check.{Bytes}
 use Rattle.crc.proofs.Laws.{bytes_take}
@@ -16,31 +16,28 @@ use Rattle.codec.specs.Reading.{read_item}
 use Rattle.codec.specs.Told.{told_number, told_text, text_in}
 use Rattle.codec.specs.Taking.{ReadsText}
 use Rattle.codec.specs.declared.refusal.Refusal.{Refusal}
-use Rattle.codec.specs.declared.reader.NumberRead.{NumberRead}
-use Rattle.codec.specs.declared.reader.NumberRead.TheVariants.{Got, Refused}
 use Rattle.codec.specs.declared.reader.TextRead.{TextRead}
-use Rattle.codec.specs.declared.reader.TextRead.TheVariants.{Got as GotText, Refused as RefusedText}
 use Rattle.codec.proofs.Forth.{bytes_drop, bytes-number}
 use Rattle.codec.proofs.Items.{number_is_lem, ltb-zero}
 use Rattle.families.specs.Sheets.{text_item}
 use Rattle.edits.specs.Layout.{place_after, after_text, shown, selection, popup_from, popup_layout}
 
 -- ---- the place after a text
-pub after-got : (s : List ℕ) (at n next : ℕ) (r : TextRead) → r ≡ GotText n next
+pub after-got : (s : List ℕ) (at : ℕ) (x : TextRead) (r : Result TextRead Refusal) → r ≡ Ok x
     → ReadsText 51 r s at
-    → (next ≡ after_text s at) × (next ≤ length s)
-after-got s at n next r e h =
-    let told : told_text s at (GotText n next) ≡ read_item text_item (drop at s) = rw e at h.0 in
-    let there : text_in s at (GotText n next) = rw e at h.1 in
-    let l : length (take n (drop at s)) ≡ n = length-take-le n (drop at s) (rw length-drop (omega (arith, there.0))) in
-    let a : after_text s at ≡ at + (length (take n (drop at s)) + 1) = sym (ap (λ (x : Answer (List ℕ)). place_after at x) told) in
+    → (x.next ≡ after_text s at) × (x.next ≤ length s)
+after-got s at x r e h =
+    let told : told_text s at (Ok x) ≡ read_item text_item (drop at s) = rw e at h.0 in
+    let there : text_in s at (Ok x) = rw e at h.1 in
+    let l : length (take x.len (drop at s)) ≡ x.len = length-take-le x.len (drop at s) (rw length-drop (omega (arith, there.0))) in
+    let a : after_text s at ≡ at + (length (take x.len (drop at s)) + 1) = sym (ap (λ (y : Answer (List ℕ)). place_after at y) told) in
     (omega (arith, l, a, there.1), omega (arith, there.0, there.1))
 
-pub after_none : (s : List ℕ) (at : ℕ) (r : TextRead) (k : Refusal) → r ≡ RefusedText k
+pub after_none : (s : List ℕ) (at : ℕ) (r : Result TextRead Refusal) (k : Refusal) → r ≡ Err k
     → ReadsText 51 r s at
     → (0 ≡ after_text s at) × (0 ≤ length s)
 after_none s at r k e h =
-    let told : told_text s at (RefusedText k) ≡ read_item text_item (drop at s) = rw e at h.0 in
+    let told : told_text s at (Err k) ≡ read_item text_item (drop at s) = rw e at h.0 in
     (ap (λ (x : Answer (List ℕ)). place_after at x) told, omega arith)
 
 -- ---- a popup
@@ -70,27 +67,12 @@ long_is s at b h =
     let m = (bytes-number t 4 l (bytes_take 4 (drop at s) (bytes_drop at s b))).1 in
     number_is_lem 4 0 4294967295 s at (number_of t) h (refl, m) ∙ rw (ltb-zero (number_of t), le-ltb 4294967295 (number_of t) (omega arith))
 
-pub long-got : (s : List ℕ) (at n : ℕ) (r : NumberRead) → Bytes s → at + 4 ≤ length s → r ≡ Got n
+pub long-got : (s : List ℕ) (at n : ℕ) (r : Result ℕ Refusal) → Bytes s → at + 4 ≤ length s → r ≡ Ok n
     → told_number r ≡ read_item long (drop at s) → n ≡ number_of (take 4 (drop at s))
-long-got s at n r b h e t = let k : told_number (Got n) ≡ got (number_of (take 4 (drop at s)) ∷ []) = rw e at t ∙ long_is s at b h in cc
+long-got s at n r b h e t = let k : told_number (Ok n) ≡ got (number_of (take 4 (drop at s)) ∷ []) = rw e at t ∙ long_is s at b h in cc
 
-pub long-not : (s : List ℕ) (at : ℕ) (r : NumberRead) (k : Refusal) → Bytes s → at + 4 ≤ length s → r ≡ Refused k
+pub long-not : (s : List ℕ) (at : ℕ) (r : Result ℕ Refusal) (k : Refusal) → Bytes s → at + 4 ≤ length s → r ≡ Err k
     → told_number r ≡ read_item long (drop at s) → 0 ≡ number_of (take 4 (drop at s))
 long-not s at r k b h e t =
-    let f : told_number (Refused k) ≡ got (number_of (take 4 (drop at s)) ∷ []) = rw e at t ∙ long_is s at b h in
+    let f : told_number (Err k) ≡ got (number_of (take 4 (drop at s)) ∷ []) = rw e at t ∙ long_is s at b h in
     let z : ◌≡◌ {A = ℕ} 0 1 = cc in absurd (omega arith)
-
--- ---- the same answer many times: the loop that puts it
-pub all_start : (t : List ℕ) (count n : ℕ) → sets t 0 (replicate count n) ≡ sets t 0 (replicate (count - 0) n)
-all_start t count n = let g : count ≡ count - 0 = omega arith in ap (λ (k : ℕ). sets t 0 (replicate k n)) g
-
-pub all_turn : (t l : List ℕ) (i count n : ℕ) → i < count → t ≡ sets l i (replicate (count - i) n)
-    → t ≡ sets (set l i n) (i + 1) (replicate (count - (i + 1)) n)
-all_turn t l i count n h e =
-    let g : count - i ≡ suc (count - suc i) = omega arith in
-    rw (add-one i) (rw g at e)
-
-pub all_end : (t l : List ℕ) (i count n : ℕ) → count ≤ i → t ≡ sets l i (replicate (count - i) n) → l ≡ t
-all_end t l i count n h e =
-    let g : count - i ≡ 0 = omega arith in
-    sym (rw g at e)

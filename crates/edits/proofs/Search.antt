@@ -4,15 +4,19 @@ use mathlib.Core.Bool.{Bool, true, false}
 use mathlib.Core.List.{List, [], ◌∷◌, ◌++◌}
 use mathlib.Core.Logic.{◌⊎◌, inl, inr}
 use mathlib.Core.Path.{◌≡◌, refl, ap, sym, subst, ◌∙◌}
-use native.Mathlib.Nat.{zero-add}
 use native.Mathlib.Omega.{arith}
 use lib.ListN.{length, take, drop, get_or}
 use lib.Dec.{ltb, leb, eqb}
-use borrow.Author.Tests.{ltb-true, ltb-false, leb-true, eqb-true}
+use borrow.Author.Tests.{ltb-true, ltb-false, leb-true, eqb-true, eqb-false, eq-eqb, ne_eqb, lt-ltb}
+use Rattle.std.specs.List.{position_or_len}
+use Rattle.std.specs.Prelude.{Some, None, cond, not}
+use Rattle.std.proofs.lemmas.Option.{cond_some}
+use Rattle.std.proofs.lemmas.Option.{none-some}
 use Rattle.codec.specs.Pick.{pick}
-use Rattle.codec.specs.Sheet.{got, refused}
+use Rattle.codec.specs.Sheet.{Answer, got, refused}
 use Rattle.codec.proofs.Back.{both, passed}
-use Rattle.edits.specs.Table.{Entry, table, no_row, searched, rows_of, no_field_row, located, row_in, row_for, is_among}
+use Rattle.edits.specs.Table.{Entry, table, no_row, searched, rows_of, located, row_told, row_for, index_found, is_among}
+use Rattle.edits.specs.declared.layout.Layout.{Layout}
 use Rattle.edits.specs.declared.table.FieldRow.{FieldRow}
 
 -- ---- rows without a number
@@ -94,31 +98,30 @@ away_lacks : (f : ℕ) (l : List Entry) → away f l ≡ true → Lacks f l
 away_lacks f [] h = tt
 away_lacks f (e ∷ l) h = let p = passed (eqb f e.number) (away f l) h in (p.0, away_lacks f l p.1)
 
--- what the table tells of a number, its rows counted from i: one row has it, or none
-abbrev Told : ℕ → ℕ → ℕ → ℕ → List Entry → FieldRow → Type 0
-Told f near far i l r =
-    ((k : ℕ) × ((k < length l) × (Sole f l k × (r ≡ located (i + k) (get_or l k no_row) near far)))) ⊎ (Lacks f l × (r ≡ no_field_row))
+-- what the search tells of a number: one row has it, or none
+abbrev has : ℕ → Entry → Bool
+has f e = eqb e.number f
 
-told : (f near far i : ℕ) (l : List Entry) → apart l ≡ true → Told f near far i l (row_in l i f near far)
-told f near far i [] h = inr (tt, refl)
-told f near far i (e ∷ l) h = by (eqb f e.number) refl (told f near far (i + 1) l (both (away e.number l) (apart l) h).1)
+abbrev Told : ℕ → List Entry → ℕ → Type 0
+Told f l k = ((k < length l) × Sole f l k) ⊎ ((k ≡ length l) × Lacks f l)
+
+told : (f : ℕ) (l : List Entry) → apart l ≡ true → Told f l (position_or_len (has f) l)
+told f [] h = inr (refl, tt)
+told f (e ∷ l) h = by (eqb e.number f) refl (told f l (both (away e.number l) (apart l) h).1)
   where
-    lacks : eqb f e.number ≡ true → Lacks f l
-    lacks g = subst (λ (n : ℕ). Lacks n l) (sym (eqb-true f e.number g))
-        (away_lacks e.number l (both (away e.number l) (apart l) h).0)
+    lacks : eqb e.number f ≡ true → Lacks f l
+    lacks g = subst (λ (n : ℕ). Lacks n l) (eqb-true e.number f g) (away_lacks e.number l (both (away e.number l) (apart l) h).0)
 
-    further : (r : FieldRow) → eqb f e.number ≡ false → Told f near far (i + 1) l r → Told f near far i (e ∷ l) r
-    further r g (inl (k, (a, (b, c)))) =
-        let m : i + 1 + k ≡ i + suc k = omega arith in
-        inl (suc k, (omega arith, ((g, b), c ∙ ap (λ (x : ℕ). located x (get_or l k no_row) near far) m)))
-    further r g (inr (a, b)) = inr ((g, a), b)
+    on : (k : ℕ) → eqb f e.number ≡ false → Told f l k → Told f (e ∷ l) (suc k)
+    on k g (inl (a, b)) = inl (omega arith, (g, b))
+    on k g (inr (a, b)) = inr (omega arith, (g, b))
 
-    by : (t : Bool) → eqb f e.number ≡ t → Told f near far (i + 1) l (row_in l (i + 1) f near far)
-        → Told f near far i (e ∷ l) (pick t (located i e near far) (row_in l (i + 1) f near far))
-    by true g go =
-        let m : i ≡ i + 0 = omega arith in
-        inl (0, (omega arith, ((g, lacks g), ap (λ (x : ℕ). located x e near far) m)))
-    by false g go = further (row_in l (i + 1) f near far) g go
+    by : (t : Bool) → eqb e.number f ≡ t → Told f l (position_or_len (has f) l)
+        → Told f (e ∷ l) (cond (not t) (1 + position_or_len (has f) l) 0)
+    by true g go = inl (omega arith, (eq-eqb f e.number (sym (eqb-true e.number f g)), lacks g))
+    by false g go =
+        let n : suc (position_or_len (has f) l) ≡ 1 + position_or_len (has f) l = omega arith in
+        subst (Told f (e ∷ l)) n (on (position_or_len (has f) l) (ne_eqb f e.number (λ x. eqb-false e.number f g (sym x))) go)
 
 -- ---- what every row keeps
 pub record Fine (e : Entry) : Type 0 where
@@ -189,39 +192,6 @@ found_out : (f first end : ℕ) (l : List Entry) → Lacks f (take 2 l) → Lack
 found_out f first end l a b =
     past f (take 2 l) (take (end - first) (drop first l)) a ∙ lacks_none f (take (end - first) (drop first l)) b
 
--- ---- over any rows that are fine
-abbrev RowIn : ℕ → ℕ → ℕ → List Entry → FieldRow → Type 0
-RowIn f near far rs r = (e : Entry) × ((searched rs f ≡ got e) × ((r ≡ located r.index e near far) × Fine e))
-
-in_by : (f near far first end : ℕ) (l : List Entry) (r : FieldRow) → all_fine l ≡ true → end ≤ 32 → Told f near far 0 l r
-    → is_among r.index first end ≡ true → RowIn f near far (Of l first end) r
-in_by f near far first end l r g h (inl (k, (a, (b, c)))) m =
-    let i : r.index ≡ 0 + k = ap (λ (x : FieldRow). x.index) c in
-    let u : is_among k first end ≡ true = rw (i, zero-add k) at m in (
-      get_or l k no_row,
-      (
-        found_in f k first end l b (among k first end u),
-        (c ∙ ap (λ (x : ℕ). located x (get_or l k no_row) near far) (sym i), fine_is (get_or l k no_row) (fine-at l k g a)),
-      ),
-    )
-in_by f near far first end l r g h (inr (a, b)) m =
-    let i : r.index ≡ 32 = ap (λ (x : FieldRow). x.index) b in
-    let u : is_among 32 first end ≡ true = rw i at m in
-    never (among 32 first end u)
-  where
-    never : (32 < 2) ⊎ ((2 ≤ 32) × ((first ≤ 32) × (32 < end))) → RowIn f near far (Of l first end) r
-    never (inl x) = absurd (omega arith)
-    never (inr (x, (y, z))) = absurd (omega arith)
-
-out_by : (f near far first end : ℕ) (l : List Entry) (r : FieldRow) → Told f near far 0 l r → is_among r.index first end ≡ false
-    → searched (Of l first end) f ≡ refused 7 0
-out_by f near far first end l r (inl (k, (a, (b, c)))) m =
-    let i : r.index ≡ 0 + k = ap (λ (x : FieldRow). x.index) c in
-    let u = outside k first end (rw (i, zero-add k) at m) in
-    found_out f first end l (sole_before f 2 0 k l b u.0) (lacking f k first end l b u.1)
-out_by f near far first end l r (inr (a, b)) m =
-    found_out f first end l (lacks_take f 2 l a) (lacks_take f (end - first) (drop first l) (lacks_drop f first l a))
-
 -- ---- the table: two computed tests
 all-fine : all_fine table ≡ true
 all-fine = refl
@@ -229,14 +199,99 @@ all-fine = refl
 all_apart : apart table ≡ true
 all_apart = refl
 
-told-table : (f near far : ℕ) → Told f near far 0 table (row_for f near far)
-told-table f near far = told f near far 0 table all_apart
+told-table : (f : ℕ) → Told f table (position_or_len (has f) table)
+told-table f = told f table all_apart
 
-pub row_in_lem : (f near far first end : ℕ) → end ≤ 32 → is_among (row_for f near far).index first end ≡ true
-    → (e : Entry) × ((searched (rows_of first end) f ≡ got e)
-    × ((row_for f near far ≡ located (row_for f near far).index e near far) × Fine e))
-row_in_lem f near far first end h m = in_by f near far first end table (row_for f near far) all-fine h (told-table f near far) m
+-- ---- the row of an index that was found, where a command has it and where not; and of none
+module _ (f : ℕ) (s : Layout) where
+  at_place : (n i : ℕ) → Told f table n → Some i ≡ cond (ltb n 32) (Some n) None → (i < 32) × Sole f table i
+  at_place n i (inl (a, b)) h =
+      let e : n ≡ i = (cond_some (ltb n 32) n i (sym h)).1 in
+      (omega (arith, e, a), subst (Sole f table) e b)
+  at_place n i (inr (a, b)) h =
+      let e = ltb-true n 32 (cond_some (ltb n 32) n i (sym h)).0 in
+      absurd (omega (arith, e, a))
 
-pub row_out : (f near far first end : ℕ) → is_among (row_for f near far).index first end ≡ false
-    → searched (rows_of first end) f ≡ refused 7 0
-row_out f near far first end m = out_by f near far first end table (row_for f near far) (told-table f near far) m
+  pub index_small : (i : ℕ) → Some i ≡ index_found f → i < 32
+  index_small i h = (at_place (position_or_len (has f) table) i (told-table f) h).0
+
+  sole : (i : ℕ) → Some i ≡ index_found f → Sole f table i
+  sole i h = (at_place (position_or_len (has f) table) i (told-table f) h).1
+
+  pub row_in_lem : (i : ℕ) → Some i ≡ index_found f → is_among i s.first s.end ≡ true
+      → Some (located (get_or table i no_row) s.near s.far) ≡ row_for f s
+  row_in_lem i h m =
+      sym (ap (λ (a : Answer Entry). row_told a s.near s.far) (found_in f i s.first s.end table (sole i h) (among i s.first s.end m)))
+
+  pub row_out : (i : ℕ) → Some i ≡ index_found f → is_among i s.first s.end ≡ false → None ≡ row_for f s
+  row_out i h m =
+      let u = outside i s.first s.end m in
+      sym (ap (λ (a : Answer Entry). row_told a s.near s.far)
+      (found_out f s.first s.end table (sole_before f 2 0 i table (sole i h) u.0) (lacking f i s.first s.end table (sole i h) u.1)))
+
+  pub row_none : None ≡ index_found f → None ≡ row_for f s
+  row_none h = by (position_or_len (has f) table) (told-table f) h
+    where
+      by : (n : ℕ) → Told f table n → None ≡ cond (ltb n 32) (Some n) None → None ≡ row_for f s
+      by n (inl (a, b)) g = absurd (none-some n (g ∙ ap (λ (t : Bool). cond t (Some n) None) (lt-ltb n 32 a)))
+      by n (inr (a, b)) g =
+          sym (ap (λ (x : Answer Entry). row_told x s.near s.far)
+          (found_out f s.first s.end table (lacks_take f 2 table b)
+          (lacks_take f (s.end - s.first) (drop s.first table) (lacks_drop f s.first table b))))
+
+-- ---- what a row tells of the search over a command's rows
+abbrev AllFine : List Entry → Type 0
+AllFine [] = Unit {0}
+AllFine (e ∷ l) = Fine e × AllFine l
+
+fine-all : (l : List Entry) → all_fine l ≡ true → AllFine l
+fine-all [] h = tt
+fine-all (e ∷ l) h = let g = both (fine e) (all_fine l) h in (fine_is e g.0, fine-all l g.1)
+
+fine_take : (n : ℕ) (l : List Entry) → AllFine l → AllFine (take n l)
+fine_take zero l h = tt
+fine_take (suc n) [] h = tt
+fine_take (suc n) (e ∷ l) h = (h.0, fine_take n l h.1)
+
+fine_drop : (n : ℕ) (l : List Entry) → AllFine l → AllFine (drop n l)
+fine_drop zero l h = h
+fine_drop (suc n) [] h = tt
+fine_drop (suc n) (e ∷ l) h = fine_drop n l h.1
+
+fine_append : (l m : List Entry) → AllFine l → AllFine m → AllFine (l ++ m)
+fine_append [] m h g = g
+fine_append (e ∷ l) m h g = (h.0, fine_append l m h.1 g)
+
+fine_rows : (first end : ℕ) → AllFine (rows_of first end)
+fine_rows first end =
+    let h = fine-all table all-fine in
+    fine_append (take 2 table) (take (end - first) (drop first table)) (fine_take 2 table h) (fine_take (end - first) (drop first table) (fine_drop first table h))
+
+-- a row that was told: its entry
+abbrev pub RowIn : List Entry → ℕ → ℕ → ℕ → FieldRow → Type 0
+RowIn l f near far r = (e : Entry) × ((searched l f ≡ got e) × ((r ≡ located e near far) × Fine e))
+
+told_some : (l : List Entry) (f near far : ℕ) (r : FieldRow) → AllFine l → Some r ≡ row_told (searched l f) near far → RowIn l f near far r
+told_some [] f near far r h g = absurd (none-some r (sym g))
+told_some (e ∷ l) f near far r h g = by (eqb f e.number) (told_some l f near far r h.1) g
+  where
+    by : (t : Bool) → (Some r ≡ row_told (searched l f) near far → RowIn l f near far r)
+        → Some r ≡ row_told (pick t (got e) (searched l f)) near far
+        → (d : Entry) × ((pick t (got e) (searched l f) ≡ got d) × ((r ≡ located d near far) × Fine d))
+    by true go g = (e, (refl, ((cond_some true r _ g).1, h.0)))
+    by false go g = go g
+
+told_none : (l : List Entry) (f near far : ℕ) → None ≡ row_told (searched l f) near far → searched l f ≡ refused 7 0
+told_none [] f near far g = refl
+told_none (e ∷ l) f near far g = by (eqb f e.number) (told_none l f near far) g
+  where
+    by : (t : Bool) → (None ≡ row_told (searched l f) near far → searched l f ≡ refused 7 0)
+        → None ≡ row_told (pick t (got e) (searched l f)) near far → pick t (got e) (searched l f) ≡ refused 7 0
+    by true go g = absurd (none-some (located e near far) g)
+    by false go g = go g
+
+pub row-some : (f : ℕ) (s : Layout) (r : FieldRow) → Some r ≡ row_for f s → RowIn (rows_of s.first s.end) f s.near s.far r
+row-some f s r h = told_some (rows_of s.first s.end) f s.near s.far r (fine_rows s.first s.end) h
+
+pub row-none : (f : ℕ) (s : Layout) → None ≡ row_for f s → searched (rows_of s.first s.end) f ≡ refused 7 0
+row-none f s h = told_none (rows_of s.first s.end) f s.near s.far h

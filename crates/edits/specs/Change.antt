@@ -6,6 +6,7 @@ use Rattle.crc.specs.Polynomial.{plus}
 use Rattle.crc.specs.Check.{command_polynomial, check_from}
 use Rattle.codec.specs.Digits.{number_of, bytes_of}
 use Rattle.codec.specs.Edit.{replaced}
+use Rattle.edits.specs.declared.table.FieldRow.{FieldRow}
 
 -- w bytes at a place
 abbrev pub held : List ℕ → ℕ → ℕ → List ℕ
@@ -34,3 +35,13 @@ renewal s t at w =
 -- n put there, and the check renewed
 abbrev pub changed : List ℕ → ℕ → ℕ → ℕ → ℕ → ℕ → List ℕ
 changed s at w u m n = set (patched s at w u m n) (length s - 1) (renewal s (patched s at w u m n) at w)
+
+-- ---- of the field that a row tells
+abbrev pub RowTakes : List ℕ → FieldRow → ℕ → Type 0
+RowTakes s r n = FieldTakes s r.place r.width r.unit r.many n
+
+abbrev pub row_patched : List ℕ → FieldRow → ℕ → List ℕ
+row_patched s r n = patched s r.place r.width r.unit r.many n
+
+abbrev pub row_changed : List ℕ → FieldRow → ℕ → List ℕ
+row_changed s r n = changed s r.place r.width r.unit r.many n

@@ -42,6 +42,10 @@ HaveRoom items = alone_size + items ≤ 60
 abbrev pub laid_out : ℕ → ℕ → ℕ → ℕ → ℕ → Layout
 laid_out size first last near far = record { size = size; first = first; end = last + 1; near = near; far = far }
 
+-- and all places fixed
+abbrev pub fixed : ℕ → ℕ → ℕ → Layout
+fixed size first last = laid_out size first last 0 0
+
 -- so many bytes of items behind the sub-command, and all places fixed; or the only or start colour at a place
 abbrev pub plain : ℕ → ℕ → ℕ → Layout
 plain items first last = laid_out (alone_size + items) first last 0 0

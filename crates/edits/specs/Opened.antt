@@ -1,11 +1,12 @@
 -- A payload as written whose layout is known, and edits applied to it. For the contracts of private functions: nobody has to believe this
 -- file. Assumes nothing.
-use Rattle.std.specs.Prelude.{ℕ, ◌*◌, ◌≤◌, Bool, true, false, ◌≡◌, List, length, get_or, ltb, eqb}
+use Rattle.std.specs.Prelude.{ℕ, ◌/◌, ◌≤◌, Bool, true, false, ◌≡◌, List, length, get_or, ltb, eqb, Result, Ok, Err}
 use Rattle.std.proofs.lemmas.List.Edits.{sets}
 use Rattle.codec.specs.Pick.{pick}
 use Rattle.codec.specs.Sheet.{Item, got}
 use Rattle.codec.specs.Edit.{place_of}
 use Rattle.codec.specs.Refusals.{number_in, refusal_number}
+use Rattle.codec.specs.declared.refusal.Refusal.{Refusal}
 use Rattle.codec.specs.declared.refusal.Refusal.TheVariants.{NotAsWritten}
 use Rattle.families.specs.Payload.{family_id}
 use Rattle.families.specs.declared.vtx.VtxCommand.{VtxCommand}
@@ -17,12 +18,10 @@ use Rattle.commands.specs.Writing.{payload_of}
 use Rattle.commands.specs.declared.DirectCommands.{DirectCommands}
 use Rattle.commands.proofs.Promised.{Sound}
 use Rattle.edits.specs.Record.{sub_of, items_in, values_in}
-use Rattle.edits.specs.Edit.{Edit, open_command, EditIs, numbers_of, bytes_after, edits_from}
+use Rattle.edits.specs.Edit.{open_command, EditIs, numbers_of, bytes_after, edits_in}
 use Rattle.edits.specs.Table.{near_item, far_item, sheet_row, straight, searched, rows_of}
 use Rattle.edits.specs.Layout.{vtx_layout}
 use Rattle.edits.specs.declared.layout.Layout.{Layout}
-use Rattle.edits.specs.declared.opening.Opening.{Opening}
-use Rattle.edits.specs.declared.opening.Opening.TheVariants.{Got, Refused}
 
 -- a layout serves a command of this family, sub-command, items and values: the rows that it tells are those that 01's list gives, for
 -- every field number; and so are the places
@@ -43,18 +42,21 @@ pub record Opened (p : List ℕ) (s : Layout) : Type 0 where
   pub written : p ≡ payload_of command
   pub served : Serves command s
 
+-- the number that answers an edit, or a list
+abbrev pub answered : Result (Unit {0}) Refusal → ℕ
+answered (Ok u) = 0
+answered (Err r) = refusal_number r
+
 -- an edit of it: answered and carried out as defined, and the payload is open still, by the same layout
 abbrev pub Applies : Layout → ℕ → ℕ → ℕ → List ℕ → List ℕ → Type 0
 Applies s f n r p p' = EditIs f n r p p' × Opened p' s
 
--- the first `count` edits of a list: they are there, with an answer byte each; and they are carried out in turn
-abbrev pub HasRoom : ℕ → List ℕ → List ℕ → Type 0
-HasRoom count es a = (count * 8 ≤ length es) × (count ≤ length a)
+-- a list of edits: each has an answer byte; and they are carried out in turn
+abbrev pub HasRoom : List ℕ → List ℕ → Type 0
+HasRoom es a = length es / 8 ≤ length a
 
-abbrev pub AppliesEach : ℕ → List ℕ → List ℕ → List ℕ → List ℕ → List ℕ → Type 0
-AppliesEach count es p p' a a' =
-    let edits : List Edit = edits_from count es in
-    (p' ≡ bytes_after p edits) × (a' ≡ sets a 0 (numbers_of p edits))
+abbrev pub AppliesEach : List ℕ → List ℕ → List ℕ → List ℕ → List ℕ → Type 0
+AppliesEach es p p' a a' = (p' ≡ bytes_after p (edits_in es)) × (a' ≡ sets a 0 (numbers_of p (edits_in es)))
 
 -- the one bit that reading ignores: bit 7 of a pit byte
 abbrev pub vtx_pit : VtxCommand → Bool
@@ -76,19 +78,19 @@ has_pit (Screen c) = false
 has_pit (Ack a) = false
 
 -- what is told of a command as its layout and the payload's length are known; and, of a pit command, the pit byte
-abbrev pub fitting : Layout → ℕ → Opening
-fitting s n = pick (eqb n s.size) (Got s) (Refused NotAsWritten)
+abbrev pub fitting : Layout → ℕ → Result Layout Refusal
+fitting s n = pick (eqb n s.size) (Ok s) (Err NotAsWritten)
 
-abbrev pub unset : VtxCommand → List ℕ → Opening → Opening
-unset c p o = pick (vtx_pit c) (pick (ltb 4 (length p)) (pick (ltb 0x7F (get_or p 4 0)) (Refused NotAsWritten) o) o) o
+abbrev pub unset : VtxCommand → List ℕ → Result Layout Refusal → Result Layout Refusal
+unset c p o = pick (vtx_pit c) (pick (ltb 4 (length p)) (pick (ltb 0x7F (get_or p 4 0)) (Err NotAsWritten) o) o) o
 
-abbrev pub vtx_opening : VtxCommand → List ℕ → Opening
+abbrev pub vtx_opening : VtxCommand → List ℕ → Result Layout Refusal
 vtx_opening c p = unset c p (fitting (vtx_layout c) (length p))
 
-abbrev pub Opens : List ℕ → Opening → Type 0
-Opens p (Got s) = Opened p s
-Opens p (Refused r) = number_in (open_command p) ≡ refusal_number r
+abbrev pub Opens : List ℕ → Result Layout Refusal → Type 0
+Opens p (Ok s) = Opened p s
+Opens p (Err r) = number_in (open_command p) ≡ refusal_number r
 
 -- for the command that was read, its payload and its stored length being known
-abbrev pub OpensRead : CommandPayload → ℕ → List ℕ → Opening → Type 0
+abbrev pub OpensRead : CommandPayload → ℕ → List ℕ → Result Layout Refusal → Type 0
 OpensRead q n p r = (c : DirectCommands) → c.payload ≡ q → c.len ≡ n → read_command p ≡ got c → Opens p r

@@ -1,6 +1,6 @@
 -- The rows of the table, worked out of 01's list and the sheets. For the contracts of private functions: nobody has to believe
 -- this file. Assumes nothing.
-use Rattle.std.specs.Prelude.{ℕ, ◌+◌, ◌-◌, ◌/◌, ◌%◌, ◌^◌, ◌≤◌, Bool, true, false, List, [], ◌∷◌, ◌++◌, map, take, drop, get_or, ltb, leb, eqb}
+use Rattle.std.specs.Prelude.{ℕ, ◌+◌, ◌-◌, ◌/◌, ◌%◌, ◌^◌, ◌≤◌, Bool, true, false, List, [], ◌∷◌, ◌++◌, map, take, drop, get_or, ltb, leb, eqb, Option, Some, None, position}
 use Rattle.codec.specs.Pick.{pick}
 use Rattle.codec.specs.Sheet.{Field, field, Item, packed, text, Row, Answer, got, refused, and_then, byte, widths}
 use Rattle.codec.specs.Writing.{items_of}
@@ -12,6 +12,9 @@ use Rattle.families.specs.Popup.{popup_items}
 use Rattle.families.specs.declared.screen.ScreenAdditionalData.TheVariants.{Selection}
 use Rattle.edits.specs.Fields.{Spot, spot, of, Listed, everywhere, listed, fields, spot_in}
 use Rattle.edits.specs.Edit.{field_of}
+use Rattle.edits.specs.declared.layout.Layout.{Layout}
+use Rattle.edits.specs.declared.table.Place.{Place}
+use Rattle.edits.specs.declared.table.Place.TheVariants.{Start as AtStart, Near as AtNear, Far as AtFar}
 use Rattle.edits.specs.declared.table.Field.{Field as CodeField}
 use Rattle.edits.specs.declared.table.FieldRow.{FieldRow}
 
@@ -160,29 +163,25 @@ rows_from first end = take (end - first) (drop first table)
 abbrev pub rows_of : ℕ → ℕ → List Entry
 rows_of first end = take 2 table ++ rows_from first end
 
--- ---- AS THE CODE HAS IT: the row of a field number, its index, and its place in a command of which near and far are known
+-- ---- AS THE CODE HAS IT: the row of a field number that a command has, at its place where near and far are known
 abbrev pub origin_at : Origin → ℕ → ℕ → ℕ
 origin_at Start near far = 0
 origin_at Near near far = near
 origin_at Far near far = far
 
-abbrev pub row_with : ℕ → ℕ → ℕ → ℕ → ℕ → ℕ → ℕ → FieldRow
-row_with index width low high place unit many =
-    record { index = index; width = width; low = low; high = high; place = place; unit = unit; many = many }
+abbrev pub row_with : ℕ → ℕ → ℕ → ℕ → ℕ → ℕ → FieldRow
+row_with width low high place unit many =
+    record { width = width; low = low; high = high; place = place; unit = unit; many = many }
 
-abbrev pub located : ℕ → Entry → ℕ → ℕ → FieldRow
-located i e near far = row_with i e.width e.low e.high (origin_at e.origin near far + e.place) e.unit e.many
+abbrev pub located : Entry → ℕ → ℕ → FieldRow
+located e near far = row_with e.width e.low e.high (origin_at e.origin near far + e.place) e.unit e.many
 
--- what a number that has no row is given: the index behind the last
-abbrev pub no_field_row : FieldRow
-no_field_row = row_with 32 1 0 0 0 1 1
+abbrev pub row_told : Answer Entry → ℕ → ℕ → Option FieldRow
+row_told (got e) near far = Some (located e near far)
+row_told (refused n p) near far = None
 
-abbrev pub row_in : List Entry → ℕ → ℕ → ℕ → ℕ → FieldRow
-row_in [] i f near far = no_field_row
-row_in (e ∷ es) i f near far = pick (eqb f e.number) (located i e near far) (row_in es (i + 1) f near far)
-
-abbrev pub row_for : ℕ → ℕ → ℕ → FieldRow
-row_for f near far = row_in table 0 f near far
+abbrev pub row_for : ℕ → Layout → Option FieldRow
+row_for f s = row_told (searched (rows_of s.first s.end) f) s.near s.far
 
 -- the index of the first entry with a number, counted from i; the count past the last: none
 abbrev pub index_in : List Entry → ℕ → ℕ → ℕ
@@ -192,20 +191,24 @@ index_in (e ∷ es) i f = pick (eqb f e.number) i (index_in es (i + 1) f)
 abbrev pub index_for : ℕ → ℕ
 index_for f = index_in table 0 f
 
--- the row of an index
-abbrev pub row_at : ℕ → ℕ → ℕ → FieldRow
-row_at i near far = pick (ltb i 32) (located i (get_or table i no_row) near far) no_field_row
+-- as the code tells it
+abbrev pub index_found : ℕ → Option ℕ
+index_found f = position (λ (e : Entry). eqb e.number f) table
 
--- an origin as the code's table has it: 0, 1, 2
-abbrev pub origin_from : ℕ → ℕ → ℕ → ℕ
-origin_from o near far = pick (eqb o 0) 0 (pick (eqb o 1) near far)
+-- a line of the code's table: number, width, low, high, place, unit, many. Its place in a command, and the row
+abbrev pub place_from : Place → ℕ → ℕ → ℕ
+place_from (AtStart n) near far = n
+place_from (AtNear n) near far = near + n
+place_from (AtFar n) near far = far + n
 
--- a line of the code's table: number, width, low, high, origin, place, unit, many. Its place in a command, and the row
 abbrev pub place_in : CodeField → ℕ → ℕ → ℕ
-place_in line near far = origin_from line.4 near far + line.5
+place_in line near far = place_from line.4 near far
 
-abbrev pub row_from : ℕ → CodeField → ℕ → ℕ → FieldRow
-row_from index line near far = row_with index line.1 line.2 line.3 (place_in line near far) line.6 line.7
+abbrev pub no_line : CodeField
+no_line = record { 0 = 0; 1 = 0; 2 = 0; 3 = 0; 4 = AtStart 0; 5 = 0; 6 = 0 }
+
+abbrev pub row_from : CodeField → ℕ → ℕ → FieldRow
+row_from line near far = row_with line.1 line.2 line.3 (place_in line near far) line.5 line.6
 
 -- "The largest length is 60."
 abbrev pub InPayload : ℕ → Type 0

@@ -1,12 +1,13 @@
 // What no edit changes of a command: how its payload is laid out.
 ghost use Rattle.std.specs.Prelude.{◌≡◌, ◌+◌, ◌≤◌, ◌<◌, ◌^◌, length};
-ghost use Rattle.edits.specs.Layout.{IsRow, HaveRoom, laid_out};
-ghost use Rattle.edits.specs.Layout.{plain as plain_layout, alone as alone_layout, coloured as coloured_layout};
+ghost use Rattle.edits.specs.Table.{is_among};
+ghost use Rattle.edits.specs.Layout.{IsRow, HaveRoom, laid_out, fixed as fixed_layout};
+ghost use Rattle.edits.specs.Layout.{plain as plain_layout, alone as alone_layout};
 ghost use Rattle.edits.specs.Layout.{osd_layout, vtx_layout, led_layout, general_layout, crossfire_layout, flow_layout};
 ghost use Rattle.edits.specs.Layout.{Stores, after_text, popup_layout, screen_layout, ack_layout};
 
 use crate::table;
-use codec::reader::{MAX_COMMAND_STRING_LEN, TextRead};
+use codec::reader::MAX_COMMAND_STRING_LEN;
 use commands::DirectCommands;
 use families::crossfire::CrossfireCommand;
 use families::flow_control::FlowControlCommand;
@@ -17,6 +18,7 @@ use families::vtx::VtxCommand;
 
 // The payload's length as written; the rows of the table from first up to end, beside the addresses'; the places that are not fixed.
 // near: of the only or start colour, or of a popup's timeout; far: of a selection's value.
+// No plainer: a range of rows in place of first and end could not be copied, and a layout is.
 #[derive(Clone, Copy)]
 pub(crate) struct Layout {
     pub size: usize,
@@ -26,7 +28,17 @@ pub(crate) struct Layout {
     pub far: usize,
 }
 
-// What a layout tells of a place that the command has not, or that is fixed.
+impl Layout {
+    // Whether the command has the row of this index: the addresses' are every command's.
+    pub(crate) fn has_row(self, index: usize) -> bool
+        ensures { result ≡ is_among index self.first self.end }
+    {
+        index < table::ADDRESS_ROWS || self.first <= index && index < self.end
+    }
+}
+
+// What a layout tells of a place that the command has not, or that is fixed: the destination's. No plainer as an Option: a row with such a
+// place would be looked for a second time, where its command was told already to lack it.
 const NO_PLACE: usize = 0;
 
 // The first item stands behind destination, source, command id and sub-command.
@@ -66,34 +78,26 @@ const COLOUR_AFTER_TIME: usize = FIRST_ITEM + WORD;
 // An ACK around its information: "command id(1), sub id(1), action 0 or 1" before it, and its 00.
 const ACK_SIZE: usize = DirectCommands::MIN_PAYLOAD_SIZE + BYTE + BYTE + BYTE + 1;
 
-// With the rows from first to last.
-fn laid(size: usize, first: usize, last: usize, near: usize, far: usize) -> Layout
+// With the rows from first to last, and all places fixed.
+fn fixed(size: usize, first: usize, last: usize) -> Layout
     requires { IsRow last }
-    ensures { result ≡ laid_out size first last near far }
+    ensures { result ≡ fixed_layout size first last }
 {
     Layout {
         size,
         first,
         end: last + 1,
-        near,
-        far,
+        near: NO_PLACE,
+        far: NO_PLACE,
     }
 }
 
-// So many bytes of items behind the sub-command, and all places fixed.
+// So many bytes of items behind the sub-command.
 fn plain(items: usize, first: usize, last: usize) -> Layout
     requires { IsRow last × HaveRoom items }
     ensures { result ≡ plain_layout items first last }
 {
-    laid(ALONE + items, first, last, NO_PLACE, NO_PLACE)
-}
-
-// The same, with its only or start colour at a place.
-fn coloured(items: usize, first: usize, last: usize, colour: usize) -> Layout
-    requires { IsRow last × HaveRoom items }
-    ensures { result ≡ coloured_layout items first last colour }
-{
-    laid(ALONE + items, first, last, colour, NO_PLACE)
+    fixed(ALONE + items, first, last)
 }
 
 // A sub-command alone has no field of its own.
@@ -120,11 +124,11 @@ pub(crate) fn of_vtx(command: VtxCommand) -> Layout
 {
     match command {
         VtxCommand::SetFrequency(_) => plain(WORD, table::ROW_FREQUENCY, table::ROW_FREQUENCY),
-        VtxCommand::EnablePitModeOnPowerUp {
-            pit_mode,
-            pit_mode_control,
-            pit_mode_switch,
-        } => plain(BYTE, table::ROW_PIT_MODE, table::ROW_PIT_SWITCH),
+        VtxCommand::EnablePitModeOnPowerUp { .. } => plain(
+            BYTE,
+            table::ROW_PIT_MODE,
+            table::ROW_PIT_SWITCH,
+        ),
         VtxCommand::PowerUpFromPitMode => alone(),
         VtxCommand::SetDynamicPower(_) => plain(BYTE, table::ROW_POWER, table::ROW_POWER),
         VtxCommand::SetPower(_) => plain(BYTE, table::ROW_POWER, table::ROW_POWER),
@@ -136,37 +140,22 @@ pub(crate) fn of_led(command: LedCommand) -> Layout
 {
     match command {
         LedCommand::SetDefault => alone(),
-        LedCommand::OverrideColor(_) => {
-            coloured(COLOUR, table::ROW_HUE, table::ROW_VALUE, COLOUR_FIRST)
-        }
-        LedCommand::OverridePulse {
-            duration_ms,
-            start,
-            stop,
-        } => coloured(
-            TIME_START_STOP,
-            table::ROW_TIME,
-            table::ROW_STOP_VALUE,
-            COLOUR_AFTER_TIME,
-        ),
-        LedCommand::OverrideBlink {
-            interval_ms,
-            start,
-            stop,
-        } => coloured(
-            TIME_START_STOP,
-            table::ROW_TIME,
-            table::ROW_STOP_VALUE,
-            COLOUR_AFTER_TIME,
-        ),
-        LedCommand::OverrideShift { interval_ms, color } => {
-            coloured(
-                TIME_COLOUR,
-                table::ROW_TIME,
-                table::ROW_VALUE,
-                COLOUR_AFTER_TIME,
-            )
-        }
+        LedCommand::OverrideColor(_) => Layout {
+            near: COLOUR_FIRST,
+            ..plain(COLOUR, table::ROW_HUE, table::ROW_VALUE)
+        },
+        LedCommand::OverridePulse { .. } => Layout {
+            near: COLOUR_AFTER_TIME,
+            ..plain(TIME_START_STOP, table::ROW_TIME, table::ROW_STOP_VALUE)
+        },
+        LedCommand::OverrideBlink { .. } => Layout {
+            near: COLOUR_AFTER_TIME,
+            ..plain(TIME_START_STOP, table::ROW_TIME, table::ROW_STOP_VALUE)
+        },
+        LedCommand::OverrideShift { .. } => Layout {
+            near: COLOUR_AFTER_TIME,
+            ..plain(TIME_COLOUR, table::ROW_TIME, table::ROW_VALUE)
+        },
     }
 }
 
@@ -174,11 +163,8 @@ pub(crate) fn of_general(command: GeneralCommand) -> Layout
     ensures { result ≡ general_layout command }
 {
     match command {
-        GeneralCommand::SpeedProposal {
-            port_id,
-            proposed_baudrate,
-        } => plain(PORT_BAUD, table::ROW_BAUD, table::ROW_PORT),
-        GeneralCommand::SpeedProposalResponse { port_id, accepted } => {
+        GeneralCommand::SpeedProposal { .. } => plain(PORT_BAUD, table::ROW_BAUD, table::ROW_PORT),
+        GeneralCommand::SpeedProposalResponse { .. } => {
             plain(PORT_ACCEPTED, table::ROW_PORT, table::ROW_ACCEPTED)
         }
     }
@@ -207,11 +193,12 @@ pub(crate) fn of_flow(command: FlowControlCommand) -> Layout
     ensures { result ≡ flow_layout command }
 {
     match command {
-        FlowControlCommand::Subscribe {
-            frame_type,
-            max_interval_time,
-        } => plain(TYPE_INTERVAL, table::ROW_FRAME_TYPE, table::ROW_INTERVAL),
-        FlowControlCommand::Unsubscribe { frame_type } => {
+        FlowControlCommand::Subscribe { .. } => plain(
+            TYPE_INTERVAL,
+            table::ROW_FRAME_TYPE,
+            table::ROW_INTERVAL,
+        ),
+        FlowControlCommand::Unsubscribe { .. } => {
             plain(BYTE, table::ROW_FRAME_TYPE, table::ROW_FRAME_TYPE)
         }
     }
@@ -222,8 +209,8 @@ fn after_text(payload: &[u8], at: usize) -> usize
     ensures { (result ≡ after_text payload.now at) × (result ≤ length payload.now) }
 {
     match codec::reader::read_text(payload, at, MAX_COMMAND_STRING_LEN) {
-        TextRead::Got { len, next } => next,
-        TextRead::Refused(_) => 0,
+        Ok(text) => text.next,
+        Err(_) => 0,
     }
 }
 
@@ -233,28 +220,24 @@ fn of_popup(stored: usize, payload: &[u8]) -> Layout
     requires { Stores stored payload.now }
     ensures { result ≡ popup_layout stored payload.now }
 {
-    let size = stored + ALONE;
     let timeout = after_text(payload, after_text(payload, FIRST_ITEM));
     let label = timeout + TIMEOUT_CLOSE;
-    if label < stored + FIRST_ITEM {
-        if payload[label] != 0 {
-            let value = after_text(payload, label);
-            return laid(
-                size,
+    if label < stored + FIRST_ITEM && payload[label] != 0 {
+        Layout {
+            near: timeout,
+            far: after_text(payload, label),
+            ..fixed(
+                stored + ALONE,
                 table::ROW_TIMEOUT,
                 table::ROW_SELECTION_DEFAULT,
-                timeout,
-                value,
-            );
+            )
+        }
+    } else {
+        Layout {
+            near: timeout,
+            ..fixed(stored + ALONE, table::ROW_TIMEOUT, table::ROW_CLOSE)
         }
     }
-    laid(
-        size,
-        table::ROW_TIMEOUT,
-        table::ROW_CLOSE,
-        timeout,
-        NO_PLACE,
-    )
 }
 
 pub(crate) fn of_screen(command: ScreenCommand, stored: usize, payload: &[u8]) -> Layout
@@ -263,7 +246,7 @@ pub(crate) fn of_screen(command: ScreenCommand, stored: usize, payload: &[u8]) -
 {
     match command {
         ScreenCommand::PopupMessageStart => of_popup(stored, payload),
-        ScreenCommand::SelectionReturnValue { value, response } => {
+        ScreenCommand::SelectionReturnValue { .. } => {
             plain(
                 VALUE_RESPONSE,
                 table::ROW_RETURNED_VALUE,
@@ -278,11 +261,9 @@ pub(crate) fn of_ack(stored: usize) -> Layout
     requires { stored + 8 < 2 ^ 64 }
     ensures { result ≡ ack_layout stored }
 {
-    laid(
+    fixed(
         stored + ACK_SIZE,
         table::ROW_ACK_COMMAND_ID,
         table::ROW_ACK_ACTION,
-        NO_PLACE,
-        NO_PLACE,
     )
 }

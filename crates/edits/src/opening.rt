@@ -6,15 +6,8 @@ ghost use Rattle.edits.specs.Opened.{fitting, vtx_pit, vtx_opening, Opens, Opens
 use crate::layout;
 use crate::layout::Layout;
 use codec::refusal::Refusal;
-use commands::kind::KindRead;
 use families::payload::CommandPayload;
 use families::vtx::VtxCommand;
-
-#[derive(Clone, Copy)]
-pub(crate) enum Opening {
-    Got(Layout),
-    Refused(Refusal),
-}
 
 // Where a pit byte stands, and its bits without bit 7.
 const PIT_BYTE: usize = layout::FIRST_ITEM;
@@ -22,13 +15,13 @@ const PIT_BYTE: usize = layout::FIRST_ITEM;
 const PIT_BITS: u8 = 0x7F;
 
 // Reading ignores bytes after the last item.
-fn fits(layout: Layout, len: usize) -> Opening
+fn fits(layout: Layout, len: usize) -> Result<Layout, Refusal>
     ensures { result ≡ fitting layout len }
 {
     if len == layout.size {
-        Opening::Got(layout)
+        Ok(layout)
     } else {
-        Opening::Refused(Refusal::NotAsWritten)
+        Err(Refusal::NotAsWritten)
     }
 }
 
@@ -36,36 +29,22 @@ fn fits(layout: Layout, len: usize) -> Opening
 fn is_pit(command: VtxCommand) -> bool
     ensures { result ≡ vtx_pit command }
 {
-    match command {
-        VtxCommand::SetFrequency(_) => false,
-        VtxCommand::EnablePitModeOnPowerUp {
-            pit_mode,
-            pit_mode_control,
-            pit_mode_switch,
-        } => true,
-        VtxCommand::PowerUpFromPitMode => false,
-        VtxCommand::SetDynamicPower(_) => false,
-        VtxCommand::SetPower(_) => false,
-    }
+    matches!(command, VtxCommand::EnablePitModeOnPowerUp { .. })
 }
 
 // It ignores bit 7 of a pit byte too.
-fn judge_vtx(command: VtxCommand, payload: &[u8]) -> Opening
+fn judge_vtx(command: VtxCommand, payload: &[u8]) -> Result<Layout, Refusal>
     ensures { result ≡ vtx_opening command payload.now }
 {
-    if is_pit(command) {
-        if PIT_BYTE < payload.len() {
-            if PIT_BITS < payload[PIT_BYTE] {
-                return Opening::Refused(Refusal::NotAsWritten);
-            }
-        }
+    if is_pit(command) && PIT_BYTE < payload.len() && PIT_BITS < payload[PIT_BYTE] {
+        return Err(Refusal::NotAsWritten);
     }
     fits(layout::of_vtx(command), payload.len())
 }
 
 // Whether the payload is what the writer makes of the command that was read of it, with so many stored bytes. Nothing is written to
 // tell.
-fn judge(command: CommandPayload, stored: usize, payload: &[u8]) -> Opening
+fn judge(command: CommandPayload, stored: usize, payload: &[u8]) -> Result<Layout, Refusal>
     requires { Stores stored payload.now }
     ensures { OpensRead command stored payload.now result }
 {
@@ -83,14 +62,9 @@ fn judge(command: CommandPayload, stored: usize, payload: &[u8]) -> Opening
 }
 
 // The payload read once: its layout, or the refusal that answers every edit of it.
-pub(crate) fn open(payload: &[u8]) -> Opening
+pub(crate) fn open(payload: &[u8]) -> Result<Layout, Refusal>
     ensures { Opens payload.now result }
 {
-    match commands::kind::read(payload) {
-        KindRead::Got {
-            payload: command,
-            len: stored,
-        } => judge(command, stored, payload),
-        KindRead::Refused(r) => Opening::Refused(r),
-    }
+    let read = commands::kind::read(payload)?;
+    judge(read.payload, read.len, payload)
 }

@@ -4,8 +4,8 @@ use mathlib.Core.Bool.{Bool, true, false}
 use mathlib.Core.List.{List, [], ◌∷◌, ◌++◌, append-nil}
 use mathlib.Core.Path.{◌≡◌, refl, ap, sym, ◌∙◌}
 use native.Mathlib.Omega.{arith}
-use lib.ListN.{length, get_or, drop, take, set, length-set, length-drop, length-append}
-use lib.Seq.{sets, drop-cons, length-take-le, take-length}
+use lib.ListN.{length, get_or, drop, take, set, length-set, length-append}
+use lib.Seq.{sets, drop-cons}
 use lib.Dec.{ltb, leb}
 use borrow.Author.Tests.{le-ltb, le-leb, lt-leb, leb-true, leb-false, ltb-false}
 use Rattle.codec.specs.Pick.{pick}
@@ -13,7 +13,6 @@ use Rattle.codec.specs.Digits.{number_of}
 use Rattle.codec.specs.Sheet.{Answer, got, refused, text, byte, field, first}
 use Rattle.codec.specs.Reading.{read_item, read_items}
 use Rattle.codec.specs.Writing.{nonzero, ok_items, write_items, stop_room, counted, put_at}
-use Rattle.codec.specs.declared.refusal.Outcome.TheVariants.{Accepted}
 use Rattle.codec.proofs.Items.{number_is_lem, item_is, item-short, ltb-zero}
 use Rattle.codec.proofs.Packed.{byte-item, number_ok, number-over}
 use Rattle.codec.proofs.Loops.{sets_append}
@@ -22,7 +21,7 @@ use Rattle.codec.proofs.Back.{items_back}
 use Rattle.codec.proofs.There.{and_got, items-got}
 use Rattle.codec.proofs.TextRange.{text_range}
 use Rattle.families.specs.Text.{padded}
-use Rattle.families.specs.Ack.{ack_items, ack_loose, action_ok, read_ack, ack_with, ack_says, stop_ack, new_ack, AckIs, made_information}
+use Rattle.families.specs.Ack.{ack_items, ack_loose, action_ok, read_ack, ack_with, ack_says, stop_ack, new_ack, made_information}
 use Rattle.families.specs.declared.ack.CommandAck.{CommandAck}
 use Rattle.families.proofs.TextLaws.{made-padded}
 
@@ -50,8 +49,8 @@ new_action a t h l = rw (le-leb (length t) 52 h, action_over a t l)
 pub new-zero : (a : CommandAck) (t : List ℕ) → length t ≤ 52 → a.action ≤ 1 → nonzero t ≡ false → new_ack a t ≡ refused 2 0
 new-zero a t h l z = rw (le-leb (length t) 52 h, action_in a t l, z)
 
-pub new-got : (a : CommandAck) (t : List ℕ) → length t ≤ 52 → a.action ≤ 1 → nonzero t ≡ true → new_ack a t ≡ got (ack_says a (take (length t) (drop 0 t)))
-new-got a t h l z = rw (le-leb (length t) 52 h, action_in a t l, z, take-length t)
+pub new-got : (a : CommandAck) (t : List ℕ) → length t ≤ 52 → a.action ≤ 1 → nonzero t ≡ true → new_ack a t ≡ got (ack_says a t)
+new-got a t h l z = rw (le-leb (length t) 52 h, action_in a t l, z)
 
 -- ---- the ways through reading: a byte that is there reads
 byte-there : (s : List ℕ) (at : ℕ) → at < length s → get_or s at 0 < 256 → read_item byte (drop at s) ≡ got (get_or s at 0 ∷ [])
@@ -97,12 +96,6 @@ ack_action s t o e h = ack_then s t o (sym e) ∙ rw (action_over (ack_at s) t h
 
 pub ack_got : (s t : List ℕ) → Opens s → got t ≡ read_item (text 0 52) (drop 3 s) → get_or s 2 0 ≤ 1 → read_ack s ≡ got (ack_says (ack_at s) t)
 ack_got s t o e h = ack_then s t o (sym e) ∙ rw (action_in (ack_at s) t h)
-
-pub accepted_is : (a : CommandAck) (s b : List ℕ) (at n : ℕ) → at + n ≤ length s → b ≡ padded 55 (take n (drop at s))
-    → AckIs (got (ack_says a (take n (drop at s)))) (record { outcome = Accepted; ack = a; len = n; bytes = b })
-accepted_is a s b at n h e =
-    let k : n ≤ length (drop at s) = rw length-drop (omega arith) in
-    (refl, (refl, (sym (length-take-le n (drop at s) k), e)))
 
 -- ---- writing
 pub ack_bytes : (a : CommandAck) (t : List ℕ) → a.command_id < 256 → a.sub_command_id < 256 → a.action < 256

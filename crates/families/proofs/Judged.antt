@@ -1,4 +1,5 @@
 -- What stops a popup's construction, where every text that is present is made. Assumes nothing.
+use Rattle.std.specs.Prelude.{Result, Ok}
 use Prim.Native.Nat.{ℕ, zero, suc, ◌+◌, ◌≤◌}
 use mathlib.Core.Bool.{Bool, true, false}
 use mathlib.Core.List.{List, [], ◌∷◌, ◌++◌}
@@ -10,10 +11,11 @@ use lib.Seq.{length-take-le}
 use lib.Dec.{leb, ltb, eqb}
 use borrow.Author.Tests.{leb-true, eq-eqb, eqb-true}
 use Rattle.codec.specs.Pick.{pick}
-use Rattle.codec.specs.Sheet.{got, refused, text}
+use Rattle.codec.specs.Sheet.{refused, text}
 use Rattle.codec.specs.Writing.{ok_item, ok_items, nonzero, write_items}
 use Rattle.codec.specs.Refusals.{number_in}
 use Rattle.codec.proofs.Back.{both}
+use Rattle.codec.proofs.Outcomes.{gives_ok}
 use Rattle.codec.proofs.Stops.{each_room}
 use Rattle.codec.proofs.Joins.{ok_join, stop-join}
 use Rattle.codec.proofs.Packed.{byte_ok, flag_ok}
@@ -25,12 +27,10 @@ use Rattle.families.specs.declared.screen.ScreenAdditionalData.TheVariants.{Abse
 use Rattle.families.specs.Sheets.{text_item}
 use Rattle.families.specs.Text.{zeros, bytes_in, made_text}
 use Rattle.families.specs.Popup.{head_items, more_items, values_items, popup_items, popup, alone, write_popup}
-use Rattle.families.specs.Fields.{head_says, more_says, values_says, popup_says, made_more, made_values, made_texts, popup_of, stop_popup, unless, construct, PopupIs, MadePopup}
+use Rattle.families.specs.Fields.{head_says, more_says, values_says, popup_says, made_more, made_values, made_texts, stop_popup, unless, construct, PopupIs, MadePopup}
 use Rattle.families.specs.Sizes.{Sized, Ranged, empty_label, more_size, over, stop_sizes}
-use Rattle.codec.specs.declared.refusal.Outcome.TheVariants.{Accepted}
-use Rattle.families.specs.declared.screen.PopupAnswer.{PopupAnswer}
+use Rattle.codec.specs.declared.refusal.Refusal.{Refusal}
 use Rattle.families.proofs.PopupLaws.{groups_write}
-use Rattle.families.proofs.Made.{construct-by}
 
 -- a text that is made, in the sheet's terms
 pub text_ok : (t : CommandString) → length t.bytes ≡ 51 → made_text t ≡ true
@@ -249,10 +249,5 @@ label_there f z r h s = by f.additional_data refl (eqb f.selection_text.len 0) r
         none false g = omega arith
 
 -- what an accepting answer holds is made
-pub new-made : (f : ScreenPopupFields) (r : PopupAnswer) → PopupIs (construct f) r → r.outcome ≡ Accepted → MadePopup r.popup
-new-made f r h e =
-    let n : number_in (construct f) ≡ 0 = sym h.0 ∙ rw e in
-    let t = accepted f n in
-    let c = construct-by f (popup_says f) t.0 refl t.1 in
-    let i : r.popup ≡ popup_of (write_popup (popup_says f)) = h.1 ∙ rw c in
-    (f, c ∙ ap (λ (x : ScreenPopup). got x) (sym i))
+pub new-made : (f : ScreenPopupFields) (r : Result ScreenPopup Refusal) (q : ScreenPopup) → PopupIs (construct f) r → r ≡ Ok q → MadePopup q
+new-made f r q h e = let g = gives_ok (λ (x : ScreenPopup). x) (construct f) q (rw e at h) in (f, rw g.1.1 g.1.0)

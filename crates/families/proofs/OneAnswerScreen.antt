@@ -1,21 +1,20 @@
 -- Any two answers that a contract of Screen allows coincide. `Post` is the contract as the check reads it from the source, and no
 -- copy of it. Assumes nothing.
+use Rattle.std.specs.Prelude.{Result}
 use mathlib.Core.Path.{◌≡◌, sym, ◌∙◌}
 use lib.ListN.{length, take}
 use contract.Lifetimes.{Lfts}
 use borrow.Fn.Kinds.{Dens, res_t, ended_of}
 use denote.Triple.Clauses.{AtExit}
 use Rattle.codec.specs.Sheet.{Answer}
+use Rattle.codec.specs.declared.refusal.Refusal.{Refusal}
 use Rattle.codec.specs.Writing.{stop_room}
-use Rattle.codec.proofs.Outcomes.{outcome_one}
+use Rattle.codec.proofs.Outcomes.{gives_one}
 use Rattle.codec.proofs.Writes.{writes_one}
 use Rattle.families.specs.Fields.{construct, PopupIs, inspect, FieldsIs}
-use Rattle.families.specs.Screen.{ScreenSaid, read_screen, ScreenIs, screen_body}
+use Rattle.families.specs.Screen.{read_screen, screen_read, screen_body}
 use Rattle.families.specs.declared.screen.ScreenPopup.{ScreenPopup}
-use Rattle.families.specs.declared.screen.PopupAnswer.{PopupAnswer}
 use Rattle.families.specs.declared.screen.ScreenPopupFields.{ScreenPopupFields}
-use Rattle.families.specs.declared.screen.FieldsAnswer.{FieldsAnswer}
-use Rattle.families.specs.declared.screen.ScreenAnswer.{ScreenAnswer}
 use Rattle.families.proofs.screen.read.Reads as read
 use Rattle.families.proofs.screen.read.Kinds as read-kinds
 use Rattle.families.proofs.screen.write_to.Reads as write
@@ -29,18 +28,15 @@ use Rattle.families.proofs.screen.ScreenPopup.fields.Kinds as fields-kinds
 use Rattle.families.proofs.screen.ScreenPopupFields.blank.Reads as blank
 use Rattle.families.proofs.screen.ScreenPopupFields.blank.Kinds as blank-kinds
 
-answer_one : (a : Answer ScreenSaid) (x y : ScreenAnswer) → ScreenIs a x → ScreenIs a y → x ≡ y
-answer_one a x y p q = rw (outcome_one x.outcome y.outcome (p.0 ∙ sym q.0), p.1.0 ∙ sym q.1.0, p.1.1 ∙ sym q.1.1)
+pub fields_answer_one : (a : Answer ScreenPopupFields) (x y : Result ScreenPopupFields Refusal) → FieldsIs a x → FieldsIs a y → x ≡ y
+fields_answer_one a x y p q = gives_one (λ (f : ScreenPopupFields). f) a x y p q
 
-pub fields_answer_one : (a : Answer ScreenPopupFields) (x y : FieldsAnswer) → FieldsIs a x → FieldsIs a y → x ≡ y
-fields_answer_one a x y p q = rw (outcome_one x.outcome y.outcome (p.0 ∙ sym q.0), p.1 ∙ sym q.1)
-
-pub popup_answer_one : (a : Answer ScreenPopup) (x y : PopupAnswer) → PopupIs a x → PopupIs a y → x ≡ y
-popup_answer_one a x y p q = rw (outcome_one x.outcome y.outcome (p.0 ∙ sym q.0), p.1 ∙ sym q.1)
+pub popup_answer_one : (a : Answer ScreenPopup) (x y : Result ScreenPopup Refusal) → PopupIs a x → PopupIs a y → x ≡ y
+popup_answer_one a x y p q = gives_one (λ (f : ScreenPopup). f) a x y p q
 
 pub read_one : (κs : Lfts 1) (a : Dens κs read-kinds.ps) (x y : (res_t read-kinds.r κs).Denot) (s t : AtExit (ended_of 1 read-kinds.ps read-kinds.r) κs)
     → read.Post κs a x s → read.Post κs a y t → x ≡ y
-read_one κs a x y s t p q = answer_one (read_screen a.0.now) x y p q
+read_one κs a x y s t p q = gives_one screen_read (read_screen a.0.now) x y p q
 
 pub write_to_one : (κs : Lfts 2) (a : Dens κs write-kinds.ps) (x y : (res_t write-kinds.r κs).Denot) (s t : AtExit (ended_of 2 write-kinds.ps write-kinds.r) κs)
     → write.Post κs a x s → write.Post κs a y t → (x ≡ y) × (s.1.1.1.0.now ≡ t.1.1.1.0.now)

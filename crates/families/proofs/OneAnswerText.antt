@@ -1,23 +1,15 @@
 -- Any two answers that the contract of a public function of texts or ACKs allows coincide, and so does the lent body. `Post` is the
 -- contract as the check reads it from the source, and no copy of it. Assumes nothing.
-use Prim.Native.Nat.{ℕ}
-use mathlib.Core.List.{List}
 use mathlib.Core.Path.{◌≡◌, sym, ◌∙◌}
 use lib.ListN.{length, take}
 use contract.Lifetimes.{Lfts}
 use borrow.Fn.Kinds.{Dens, res_t, ended_of}
 use denote.Triple.Clauses.{AtExit}
-use Rattle.codec.specs.Sheet.{Answer}
 use Rattle.codec.specs.Writing.{write_items}
-use Rattle.codec.specs.declared.refusal.Outcome.{Outcome}
-use Rattle.codec.proofs.Outcomes.{outcome_one}
+use Rattle.codec.proofs.Outcomes.{gives_one}
 use Rattle.codec.proofs.Writes.{writes_one}
-use Rattle.families.specs.Text.{new_text, TextIs}
-use Rattle.families.specs.Ack.{ack_items, read_ack, ack_with, ack_says, stop_ack, new_ack, AckIs}
-use Rattle.families.specs.declared.text.CommandString.{CommandString}
-use Rattle.families.specs.declared.text.TextAnswer.{TextAnswer}
-use Rattle.families.specs.declared.ack.CommandAck.{CommandAck}
-use Rattle.families.specs.declared.ack.AckAnswer.{AckAnswer}
+use Rattle.families.specs.Text.{text_of, new_text}
+use Rattle.families.specs.Ack.{ack_items, read_ack, ack_with, ack_says, stop_ack, new_ack, acked}
 use Rattle.families.proofs.text.CommandString.new.Reads as new-text
 use Rattle.families.proofs.text.CommandString.new.Kinds as new-text-kinds
 use Rattle.families.proofs.text.all_zero.Reads as all-zero
@@ -33,27 +25,11 @@ use Rattle.families.proofs.ack.write_to.Kinds as write-to-kinds
 use Rattle.families.proofs.ack.made.Reads as made
 use Rattle.families.proofs.ack.made.Kinds as made-kinds
 
--- ---- what an answer is fixes it
-text-fields : (o p : Outcome) (t u : CommandString) → o ≡ p → t ≡ u → ◌≡◌ {A = TextAnswer} (record { outcome = o; text = t }) (record { outcome = p; text = u })
-text-fields o p t u g h = rw (g, h)
-
-pub text_one : (a : Answer (List ℕ)) (x y : TextAnswer) → TextIs a x → TextIs a y → x ≡ y
-text_one a x y p q = text-fields x.outcome y.outcome x.text y.text (outcome_one x.outcome y.outcome (p.0 ∙ sym q.0)) (p.1 ∙ sym q.1)
-
-ack_fields : (o p : Outcome) (a b : CommandAck) (m n : ℕ) (s t : List ℕ) → o ≡ p → a ≡ b → m ≡ n → s ≡ t
-    → ◌≡◌ {A = AckAnswer} (record { outcome = o; ack = a; len = m; bytes = s }) (record { outcome = p; ack = b; len = n; bytes = t })
-ack_fields o p a b m n s t f g h k = rw (f, g, h, k)
-
-pub ack_one : (a : Answer (List (List ℕ))) (x y : AckAnswer) → AckIs a x → AckIs a y → x ≡ y
-ack_one a x y p q =
-    ack_fields x.outcome y.outcome x.ack y.ack x.len y.len x.bytes y.bytes
-    (outcome_one x.outcome y.outcome (p.0 ∙ sym q.0)) (p.1.0 ∙ sym q.1.0) (p.1.1.0 ∙ sym q.1.1.0) (p.1.1.1 ∙ sym q.1.1.1)
-
 -- ---- the functions
 pub new_text_one : (κs : Lfts 1) (a : Dens κs new-text-kinds.ps) (x y : (res_t new-text-kinds.r κs).Denot)
     (s t : AtExit (ended_of 1 new-text-kinds.ps new-text-kinds.r) κs)
     → new-text.Post κs a x s → new-text.Post κs a y t → x ≡ y
-new_text_one κs a x y s t p q = text_one (new_text a.0.now) x y p q
+new_text_one κs a x y s t p q = gives_one text_of (new_text a.0.now) x y p q
 
 pub all_zero_one : (κs : Lfts 1) (a : Dens κs all-zero-kinds.ps) (x y : (res_t all-zero-kinds.r κs).Denot)
     (s t : AtExit (ended_of 1 all-zero-kinds.ps all-zero-kinds.r) κs)
@@ -68,11 +44,11 @@ made_bytes_one κs a x y s t p q = p ∙ sym q
 pub new_ack_one : (κs : Lfts 1) (a : Dens κs new-ack-kinds.ps) (x y : (res_t new-ack-kinds.r κs).Denot)
     (s t : AtExit (ended_of 1 new-ack-kinds.ps new-ack-kinds.r) κs)
     → new-ack.Post κs a x s → new-ack.Post κs a y t → x ≡ y
-new_ack_one κs a x y s t p q = ack_one (new_ack (ack_with a.0 a.1.0 a.1.1.0) a.1.1.1.0.now) x y p q
+new_ack_one κs a x y s t p q = gives_one acked (new_ack (ack_with a.0 a.1.0 a.1.1.0) a.1.1.1.0.now) x y p q
 
 pub read_one : (κs : Lfts 1) (a : Dens κs read-kinds.ps) (x y : (res_t read-kinds.r κs).Denot) (s t : AtExit (ended_of 1 read-kinds.ps read-kinds.r) κs)
     → read.Post κs a x s → read.Post κs a y t → x ≡ y
-read_one κs a x y s t p q = ack_one (read_ack a.0.now) x y p q
+read_one κs a x y s t p q = gives_one acked (read_ack a.0.now) x y p q
 
 pub write_to_one : (κs : Lfts 2) (a : Dens κs write-to-kinds.ps) (x y : (res_t write-to-kinds.r κs).Denot)
     (s t : AtExit (ended_of 2 write-to-kinds.ps write-to-kinds.r) κs)

@@ -12,13 +12,9 @@ use Rattle.codec.specs.Digits.{split}
 use Rattle.codec.specs.Sheet.{field, byte, got, refused}
 use Rattle.codec.specs.Reading.{read_item}
 use Rattle.codec.specs.Writing.{ok_item}
-use Rattle.codec.specs.Refusals.{refusal_number}
-use Rattle.codec.specs.Told.{bit, told_number}
-use Rattle.codec.specs.declared.refusal.Refusal.{Refusal}
-use Rattle.codec.specs.declared.reader.NumberRead.{NumberRead}
-use Rattle.codec.specs.declared.reader.NumberRead.TheVariants.{Got, Refused}
+use Rattle.codec.specs.Told.{bit}
 use Rattle.codec.proofs.Items.{judged, ltb-zero}
-use Rattle.codec.proofs.Unpacked.{unpacked_got, unpacked_not}
+use Rattle.codec.proofs.Packed.{packed-got, packed-not}
 use Rattle.families.specs.Sheets.{pit}
 
 pub bit-of : (n : ℕ) → bit (eqb (n % 2) 1) ≡ n % 2
@@ -31,11 +27,11 @@ pit-judged : (p : ℕ) → judged (field 4 0 15 ∷ field 2 0 3 ∷ field 1 0 1 
 pit-judged p =
     simp (div-one, ltb-zero, le-ltb 15 (p / 8 % 16) (omega arith), le-ltb 3 (p / 2 % 4) (omega arith), le-ltb 1 (p % 2) (omega arith))
 
-pub pit-got : (s : List ℕ) (r : NumberRead) (p : ℕ) → r ≡ Got p → told_number r ≡ read_item byte s → read_item pit s ≡ got (split (4 ∷ 2 ∷ 1 ∷ []) p)
-pit-got s r p e h = unpacked_got 1 (field 4 0 15 ∷ field 2 0 3 ∷ field 1 0 1 ∷ []) s r p refl e h ∙ pit-judged p
+pub pit-got : (s : List ℕ) (p : ℕ) → got (p ∷ []) ≡ read_item byte s → read_item pit s ≡ got (split (4 ∷ 2 ∷ 1 ∷ []) p)
+pit-got s p h = packed-got 1 (field 4 0 15 ∷ field 2 0 3 ∷ field 1 0 1 ∷ []) s p refl (sym h) ∙ pit-judged p
 
-pub pit-not : (s : List ℕ) (r : NumberRead) (k : Refusal) → r ≡ Refused k → told_number r ≡ read_item byte s → read_item pit s ≡ refused (refusal_number k) 0
-pit-not s r k e h = unpacked_not 1 (field 4 0 15 ∷ field 2 0 3 ∷ field 1 0 1 ∷ []) s r k e h
+pub pit-not : (s : List ℕ) (k : ℕ) → refused k 0 ≡ read_item byte s → read_item pit s ≡ refused k 0
+pit-not s k h = packed-not 1 (field 4 0 15 ∷ field 2 0 3 ∷ field 1 0 1 ∷ []) s k 0 (sym h)
 
 -- the tests of the code
 bit-small : (b : Bool) → ltb 1 (bit b) ≡ false

@@ -1,23 +1,17 @@
 -- What the parse of a popup cites: kinds by the next byte, texts with their bounds. Assumes nothing.
+use Rattle.std.specs.Prelude.{Option, Some, None, is_some, Ok}
 use Prim.Native.Nat.{ℕ, ◌+◌, ◌<◌, ◌≤◌}
-use mathlib.Core.Bool.{Bool, true, false}
+use mathlib.Core.Bool.{Bool, true}
 use mathlib.Core.List.{List, [], ◌∷◌, ◌++◌}
 use mathlib.Core.Path.{◌≡◌, refl, ap, sym, ◌∙◌}
 use native.Mathlib.Omega.{arith}
-use lib.ListN.{length, get_or, take, drop, drop_of_length-le, length-drop}
+use lib.ListN.{length, get_or, take, drop, length-drop}
 use lib.Seq.{drop-cons, length-take-le}
 use borrow.Author.Tests.{eq-eqb, ne_eqb}
 use Rattle.codec.specs.Sheet.{byte, flag, field, Answer, got, refused, and_then}
 use Rattle.codec.specs.Reading.{read_item, read_items, end_of}
-use Rattle.codec.specs.Refusals.{refusal_number}
 use Rattle.codec.specs.Told.{bit, told_number, at_most, told_flag, told_text, text_in}
-use Rattle.codec.specs.declared.refusal.Refusal.{Refusal}
-use Rattle.codec.specs.declared.reader.NumberRead.{NumberRead}
-use Rattle.codec.specs.declared.reader.NumberRead.TheVariants.{Got as GotNumber}
-use Rattle.codec.specs.declared.reader.FlagRead.{FlagRead}
-use Rattle.codec.specs.declared.reader.FlagRead.TheVariants.{Got as GotFlag}
 use Rattle.codec.specs.declared.reader.TextRead.{TextRead}
-use Rattle.codec.specs.declared.reader.TextRead.TheVariants.{Got as GotText}
 use Rattle.codec.proofs.Texts.{after_text_lem}
 use Rattle.codec.proofs.Bounds.{empty_text, packed-there}
 use Rattle.codec.proofs.TextRange.{text-most}
@@ -26,31 +20,19 @@ use Rattle.families.specs.declared.screen.ScreenAdditionalData.{ScreenAdditional
 use Rattle.families.specs.declared.screen.ScreenAdditionalData.TheVariants.{Absent, Empty, Selection}
 use Rattle.families.specs.Sheets.{text_item}
 use Rattle.families.specs.Popup.{head_items, more_items, values_items, popup_items, popup, additional_of, remains, read_rest, read_more, read_popup, write_popup}
-use Rattle.families.specs.Places.{none, spanned, SpanIn, head_at, HeadIn, told_head, head_in, more_by, no_more, MoreIs, MoreIn, told_more, more_in, values_by, ValuesIs, ValuesIn, told_values, values_in, popup_at, PlacesIn}
+use Rattle.families.specs.Places.{spanned, SpanIn, head_at, HeadIn, more_by, no_more, MoreIs, MoreIn, values_by, ValuesIs, ValuesIn, popup_at, PlacesIn}
 use Rattle.families.specs.declared.popup.Span.{Span}
 use Rattle.families.specs.declared.popup.Head.{Head}
-use Rattle.families.specs.declared.popup.HeadRead.{HeadRead}
-use Rattle.families.specs.declared.popup.HeadRead.TheVariants.{Got as GotHead, Refused as RefusedHead}
 use Rattle.families.specs.declared.popup.More.{More}
-use Rattle.families.specs.declared.popup.MoreRead.{MoreRead}
-use Rattle.families.specs.declared.popup.MoreRead.TheVariants.{Got as GotMore, Refused as RefusedMore}
 use Rattle.families.specs.declared.popup.Values.{Values}
-use Rattle.families.specs.declared.popup.ValuesRead.{ValuesRead}
-use Rattle.families.specs.declared.popup.ValuesRead.TheVariants.{Got as GotValues, Refused as RefusedValues}
 use Rattle.families.specs.declared.popup.Places.{Places}
 
 -- ---- the next byte
-pub kind_absent : (s : List ℕ) (at : ℕ) → length s ≤ at → additional_of (drop at s) ≡ Absent
-kind_absent s at h = rw (drop_of_length-le s h)
-
 pub kind_empty : (s : List ℕ) (at : ℕ) → at < length s → get_or s at 0 ≡ 0 → additional_of (drop at s) ≡ Empty
 kind_empty s at h e = rw (drop-cons s at 0 h, eq-eqb (get_or s at 0) 0 e)
 
 pub kind-selection : (s : List ℕ) (at : ℕ) → at < length s → (get_or s at 0 ≡ 0 → ⊥) → additional_of (drop at s) ≡ Selection
 kind-selection s at h e = rw (drop-cons s at 0 h, ne_eqb (get_or s at 0) 0 e)
-
-pub none_remain : (s : List ℕ) (at : ℕ) → length s ≤ at → remains (drop at s) ≡ false
-none_remain s at h = rw (drop_of_length-le s h)
 
 pub some_remain : (s : List ℕ) (at : ℕ) → at < length s → remains (drop at s) ≡ true
 some_remain s at h = rw (drop-cons s at 0 h)
@@ -60,29 +42,21 @@ abbrev pub TextGot : List ℕ → ℕ → ℕ → ℕ → Type 0
 TextGot s at n next = (read_item text_item (drop at s) ≡ got (take n (drop at s)))
     × ((at + (length (take n (drop at s)) + 1) ≡ next) × ((next ≡ at + (n + 1)) × ((at + n < length s) × (n ≤ 51))))
 
-pub text-got : (s : List ℕ) (at n next : ℕ) (r : TextRead) → r ≡ GotText n next
-    → (told_text s at r ≡ read_item text_item (drop at s)) × text_in s at r → TextGot s at n next
-text-got s at n next r e h =
-    let a : got (take n (drop at s)) ≡ read_item text_item (drop at s) = rw e at h.0 in
-    let b : (at + n < length s) × (next ≡ at + (n + 1)) = rw e at h.1 in
-    (sym a, (after_text_lem s at n next b, (b.1, (b.0, text-most 51 s at n b.0 a))))
+pub text-got : (s : List ℕ) (at : ℕ) (x : TextRead) → (told_text s at (Ok x) ≡ read_item text_item (drop at s)) × text_in s at (Ok x)
+    → TextGot s at x.len x.next
+text-got s at x h = (sym h.0, (after_text_lem s at x.len x.next h.1, (h.1.1, (h.1.0, text-most 51 s at x.len h.1.0 h.0))))
 
 abbrev pub ByteGot : List ℕ → ℕ → ℕ → Type 0
 ByteGot s at n = (read_item byte (drop at s) ≡ got (n ∷ [])) × ((n ≤ 255) × (at + 1 ≤ length s))
 
-pub byte-got : (s : List ℕ) (at n : ℕ) (r : NumberRead) → r ≡ GotNumber n → (told_number r ≡ read_item byte (drop at s)) × at_most 255 r → ByteGot s at n
-byte-got s at n r e h =
-    let a : read_item byte (drop at s) ≡ got (n ∷ []) = sym (rw e at h.0) in
-    let b : n ≤ 255 = rw e at h.1 in
-    (a, (b, packed-there 1 (field 8 0 255 ∷ []) s at (n ∷ []) (omega arith) a))
+pub byte-got : (s : List ℕ) (at n : ℕ) → (told_number (Ok n) ≡ read_item byte (drop at s)) × at_most 255 (Ok n) → ByteGot s at n
+byte-got s at n h = (sym h.0, (h.1, packed-there 1 (field 8 0 255 ∷ []) s at (n ∷ []) (omega arith) (sym h.0)))
 
 abbrev pub FlagGot : List ℕ → ℕ → Bool → Type 0
 FlagGot s at b = (read_item flag (drop at s) ≡ got (bit b ∷ [])) × (at + 1 ≤ length s)
 
-pub flag-got : (s : List ℕ) (at : ℕ) (b : Bool) (r : FlagRead) → r ≡ GotFlag b → told_flag r ≡ read_item flag (drop at s) → FlagGot s at b
-flag-got s at b r e h =
-    let a : read_item flag (drop at s) ≡ got (bit b ∷ []) = sym (rw e at h) in
-    (a, packed-there 1 (field 8 0 1 ∷ []) s at (bit b ∷ []) (omega arith) a)
+pub flag-got : (s : List ℕ) (at : ℕ) (b : Bool) → told_flag (Ok b) ≡ read_item flag (drop at s) → FlagGot s at b
+flag-got s at b h = (sym h, packed-there 1 (field 8 0 1 ∷ []) s at (bit b ∷ []) (omega arith) (sym h))
 
 -- ---- the head
 abbrev pub head_of : ℕ → ℕ → ℕ → ℕ → ℕ → ℕ → Bool → Head
@@ -99,45 +73,25 @@ head-got s at h p i q t b x y z w = (
 )
 
 -- ---- possible values
-pub values_none : (s : List ℕ) (at : ℕ) → length s ≤ at → at ≤ length s
-    → (got (values_by false s (record { present = false; text = none; next = at })) ≡ read_items (values_items (remains (drop at s))) s at)
-    × ValuesIn s at (record { present = false; text = none; next = at })
-values_none s at h l =
-    let e = none_remain s at h in
-    (rw e, (sym e, (refl, ((omega arith, omega arith), l))))
-
-pub values-got : (s : List ℕ) (at n next : ℕ) → TextGot s at n next
-    → (got (values_by true s (record { present = true; text = record { at = at; len = n }; next = next })) ≡ read_items (values_items (remains (drop at s))) s at)
-    × ValuesIn s at (record { present = true; text = record { at = at; len = n }; next = next })
-values-got s at n next x =
-    let l : at < length s = omega (arith, x.1.1.1.0) in
+pub values-got : (s : List ℕ) (at : ℕ) (x : TextRead) → (told_text s at (Ok x) ≡ read_item text_item (drop at s)) × text_in s at (Ok x)
+    → (got (values_by s (Some (record { at = at; len = x.len }))) ≡ read_items (values_items (remains (drop at s))) s at)
+    × ValuesIn s at (record { text = Some (record { at = at; len = x.len }); next = x.next })
+values-got s at x h =
+    let g = text-got s at x h in
+    let l : at < length s = omega (arith, g.1.1.1.0) in
     let e = some_remain s at l in
-    (rw (e, x.0), (sym e, ((refl, x.1.1.0), ((omega (arith, x.1.1.1.0), x.1.1.1.1), omega (arith, x.1.1.0, x.1.1.1.0)))))
+    (rw (e, g.0), (sym e, ((refl, (g.1.1.0, (omega (arith, g.1.1.1.0), g.1.1.1.1))), omega (arith, g.1.1.0, g.1.1.1.0))))
 
-pub values-not : (s : List ℕ) (at n p : ℕ) → at < length s → read_item text_item (drop at s) ≡ refused n p
+pub values-not : (s : List ℕ) (at n p : ℕ) → at < length s → refused n p ≡ read_item text_item (drop at s)
     → refused n p ≡ read_items (values_items (remains (drop at s))) s at
-values-not s at n p l h = rw (some_remain s at l, h)
+values-not s at n p l h = rw (some_remain s at l, ← h)
 
 -- ---- additional data
-pub more_absent : (s : List ℕ) (at : ℕ) → length s ≤ at → at ≤ length s
-    → (got (more_by Absent s (no_more Absent at)) ≡ read_items (more_items (additional_of (drop at s))) s at) × MoreIn s at (no_more Absent at)
-more_absent s at h l =
-    let e = kind_absent s at h in
-    (rw e, (sym e, (refl, ((omega arith, omega arith), ((omega arith, omega arith), l)))))
-
 pub more_empty : (s : List ℕ) (at : ℕ) → at < length s → get_or s at 0 ≡ 0
     → (got (more_by Empty s (no_more Empty (at + 1))) ≡ read_items (more_items (additional_of (drop at s))) s at) × MoreIn s at (no_more Empty (at + 1))
 more_empty s at h z =
     let e = kind_empty s at h z in
     (rw (e, empty_text s at h z), (sym e, (refl, ((omega arith, omega arith), ((omega arith, omega arith), omega arith)))))
-
-pub more_absent_is : (s : List ℕ) (at : ℕ) (m : More) → m ≡ no_more Absent at → length s ≤ at → at ≤ length s
-    → (got (more_by m.kind s m) ≡ read_items (more_items (additional_of (drop at s))) s at) × MoreIn s at m
-more_absent_is s at m e h l = rw e (more_absent s at h l)
-
-pub more_empty_is : (s : List ℕ) (at : ℕ) (m : More) → m ≡ no_more Empty (at + 1) → at < length s → get_or s at 0 ≡ 0
-    → (got (more_by m.kind s m) ≡ read_items (more_items (additional_of (drop at s))) s at) × MoreIn s at m
-more_empty_is s at m e h z = rw e (more_empty s at h z)
 
 -- ---- the places after the parts
 pub span_length : (s : List ℕ) (x : Span) → SpanIn s x → length (spanned s x) ≡ x.len
@@ -158,9 +112,9 @@ more_end s at m Selection e i j =
     let b = span_length s m.unit j in
     omega (arith, a, b, e.1.0, e.1.1)
 
-values_end : (s : List ℕ) (at : ℕ) (v : Values) (p : Bool) → ValuesIs p at v → SpanIn s v.text → end_of (values_items p) (values_by p s v) at ≡ v.next
-values_end s at v false e i = rw e
-values_end s at v true e i = let a = span_length s v.text i in omega (arith, a, e.1)
+values_end : (s : List ℕ) (at next : ℕ) (x : Option Span) → ValuesIs s x at next → end_of (values_items (is_some x)) (values_by s x) at ≡ next
+values_end s at next None e = rw e
+values_end s at next (Some x) e = let a = span_length s x e.1.1 in omega (arith, a, e.1.0)
 
 -- ---- the parse
 abbrev HeadGot : List ℕ → ℕ → Head → Type 0
@@ -170,31 +124,7 @@ abbrev MoreGot : List ℕ → ℕ → More → Type 0
 MoreGot s at m = (got (more_by m.kind s m) ≡ read_items (more_items (additional_of (drop at s))) s at) × MoreIn s at m
 
 abbrev ValuesGot : List ℕ → ℕ → Values → Type 0
-ValuesGot s at v = (got (values_by v.present s v) ≡ read_items (values_items (remains (drop at s))) s at) × ValuesIn s at v
-
-pub head-from : (s : List ℕ) (at : ℕ) (h : Head) (r : HeadRead) → r ≡ GotHead h → (told_head s r ≡ read_items head_items s at) × head_in s at r → HeadGot s at h
-head-from s at h r e f = (rw e at f.0, rw e at f.1)
-
-pub head-refused : (s : List ℕ) (at : ℕ) (k : Refusal) (r : HeadRead) → r ≡ RefusedHead k → told_head s r ≡ read_items head_items s at
-    → refused (refusal_number k) 0 ≡ read_items head_items s at
-head-refused s at k r e f = rw e at f
-
-pub more-from : (s : List ℕ) (at : ℕ) (m : More) (r : MoreRead) → r ≡ GotMore m
-    → (told_more s r ≡ read_items (more_items (additional_of (drop at s))) s at) × more_in s at r → MoreGot s at m
-more-from s at m r e f = (rw e at f.0, rw e at f.1)
-
-pub more-refused : (s : List ℕ) (at : ℕ) (k : Refusal) (r : MoreRead) → r ≡ RefusedMore k → told_more s r ≡ read_items (more_items (additional_of (drop at s))) s at
-    → refused (refusal_number k) 0 ≡ read_items (more_items (additional_of (drop at s))) s at
-more-refused s at k r e f = rw e at f
-
-pub values-from : (s : List ℕ) (at : ℕ) (v : Values) (r : ValuesRead) → r ≡ GotValues v
-    → (told_values s r ≡ read_items (values_items (remains (drop at s))) s at) × values_in s at r → ValuesGot s at v
-values-from s at v r e f = (rw e at f.0, rw e at f.1)
-
-pub values-refused : (s : List ℕ) (at : ℕ) (k : Refusal) (r : ValuesRead) → r ≡ RefusedValues k
-    → told_values s r ≡ read_items (values_items (remains (drop at s))) s at
-    → refused (refusal_number k) 0 ≡ read_items (values_items (remains (drop at s))) s at
-values-refused s at k r e f = rw e at f
+ValuesGot s at v = (got (values_by s v.text) ≡ read_items (values_items (remains (drop at s))) s at) × ValuesIn s at v
 
 -- the popup from its parts
 from-head : (s : List ℕ) (at b : ℕ) (h : List (List ℕ)) → got h ≡ read_items head_items s at → end_of head_items h at ≡ b
@@ -227,7 +157,7 @@ places_of h m v = record { head = h; more = m; values = v }
 pub places-got : (s : List ℕ) (at : ℕ) (h : Head) (m : More) (v : Values) → HeadGot s at h → MoreGot s h.next m → ValuesGot s m.next v
     → (got (popup_at s (places_of h m v)) ≡ read_popup s at) × PlacesIn s at (places_of h m v)
 places-got s at h m v x y z = (
-  sym (more-at s at h m x y ∙ from-values s m.kind v.present (head_at s h) (more_by m.kind s m) (values_by v.present s v) m.next z.1.0 z.0),
+  sym (more-at s at h m x y ∙ from-values s m.kind (is_some v.text) (head_at s h) (more_by m.kind s m) (values_by s v.text) m.next z.1.0 z.0),
   (x.1, (y.1, z.1)),
 )
 
@@ -244,8 +174,8 @@ places_head_not s at n k x =
     ap (λ (a : Answer (List (List ℕ))). and_then a (λ h. read_more s (additional_of (drop (end_of head_items h at) s)) h (end_of head_items h at))) x
 
 -- what was parsed reaches to the place after the last item
-rest_end : (s : List ℕ) (b : ℕ) (k : ScreenAdditionalData) (p : Bool) (m : More) (v : Values) →
-    end_of (more_items k ++ values_items p) (more_by k s m ++ values_by p s v) b ≡ end_of (values_items p) (values_by p s v) (end_of (more_items k) (more_by k s m) b)
+rest_end : (s : List ℕ) (b : ℕ) (k : ScreenAdditionalData) (p : Bool) (m : More) (v : List (List ℕ))
+    → end_of (more_items k ++ values_items p) (more_by k s m ++ v) b ≡ end_of (values_items p) v (end_of (more_items k) (more_by k s m) b)
 rest_end s b Absent p m v = refl
 rest_end s b Empty p m v = refl
 rest_end s b Selection p m v = refl
@@ -253,11 +183,12 @@ rest_end s b Selection p m v = refl
 pub places_end : (s : List ℕ) (at : ℕ) (p : Places) → PlacesIn s at p → at + length (write_popup (popup_at s p)) ≡ p.values.next
 places_end s at p x =
     let k = p.more.kind in
-    let q = p.values.present in
+    let q = is_some p.values.text in
+    let v = values_by s p.values.text in
     let y = x.1.0 in
     let z = x.1.1 in
-    sym (end_is_lem (popup_items k q) (head_at s p.head ++ (more_by k s p.more ++ values_by q s p.values)) at)
-    ∙ ap (λ (b : ℕ). end_of (more_items k ++ values_items q) (more_by k s p.more ++ values_by q s p.values) b) (head_end s at p.head x.0)
-    ∙ rest_end s p.head.next k q p.more p.values
-    ∙ ap (λ (b : ℕ). end_of (values_items q) (values_by q s p.values) b) (more_end s p.head.next p.more k y.1.0 y.1.1.0 y.1.1.1.0)
-    ∙ values_end s p.more.next p.values q z.1.0 z.1.1.0
+    sym (end_is_lem (popup_items k q) (head_at s p.head ++ (more_by k s p.more ++ v)) at)
+    ∙ ap (λ (b : ℕ). end_of (more_items k ++ values_items q) (more_by k s p.more ++ v) b) (head_end s at p.head x.0)
+    ∙ rest_end s p.head.next k q p.more v
+    ∙ ap (λ (b : ℕ). end_of (values_items q) v b) (more_end s p.head.next p.more k y.1.0 y.1.1.0 y.1.1.1.0)
+    ∙ values_end s p.more.next p.values.next p.values.text z.1.0

@@ -1,4 +1,4 @@
--- A popup from a place of some bytes on is the popup at the front of what stands there; so a screen body is read once its sub-command is taken. Assumes nothing.
+-- A popup from a place of some bytes on is the popup at the front of what stands there; so a popup is read behind its sub-command. Assumes nothing.
 use Prim.Native.Nat.{ℕ, ◌+◌}
 use mathlib.Core.List.{List, [], ◌∷◌, ◌++◌}
 use mathlib.Core.Bool.{Bool}
@@ -8,14 +8,14 @@ use lib.ListN.{drop}
 use lib.Seq.{drop-drop}
 use lib.Dec.{eqb}
 use Rattle.codec.specs.Pick.{pick}
-use Rattle.codec.specs.Sheet.{Item, Answer, got, refused, and_then, Said, byte, size_of, first}
+use Rattle.codec.specs.Sheet.{Item, Answer, got, refused, and_then, byte, size_of, first}
 use Rattle.codec.specs.Reading.{read_items, end_of, read_row}
-use Rattle.codec.specs.Taking.{Takes, read_behind}
-use Rattle.codec.proofs.InRow.{read_behind_lem, body_taken}
+use Rattle.codec.specs.Taking.{Takes}
+use Rattle.codec.proofs.InRow.{read_behind_lem}
 use Rattle.families.specs.declared.screen.ScreenAdditionalData.{ScreenAdditionalData}
 use Rattle.families.specs.Sheets.{screen_rows}
-use Rattle.families.specs.Popup.{head_items, more_items, values_items, Popup, popup, additional_of, remains, read_rest, read_more, read_popup, fitted}
-use Rattle.families.specs.Screen.{started, returned, read_screen, screen_behind}
+use Rattle.families.specs.Popup.{head_items, more_items, values_items, Popup, popup, additional_of, remains, read_rest, read_more, read_popup}
+use Rattle.families.specs.Screen.{returned, read_screen, started_by}
 
 then_same : {A B : Type 0} (a : Answer A) (f g : A → Answer B) → ((x : A) → f x ≡ g x) → and_then a f ≡ and_then a g
 then_same (got x) f g h = h x
@@ -53,21 +53,9 @@ popup-behind s k =
     ∙ ap (λ (l : List ℕ). read_more s (additional_of l) h (k + end_of head_items h 0)) (drop-drop (end_of head_items h 0) k s)
     ∙ ap (λ (n : ℕ). read_more s (additional_of (drop n s)) h n) (end_behind head_items h k 0 ∙ ap (end_of head_items h) (add-zero k)))
 
-row_taken : (v s s' : List ℕ) → Takes byte (got v) s s' → read_behind screen_rows s' (first v) ≡ read_row screen_rows s (first v)
-row_taken v s s' t = body_taken screen_rows (got v) s s' t ∙ ap (λ (x : Answer (List ℕ)). and_then x (λ w. read_row screen_rows s (first w))) (sym t.0)
-
-pub screen_taken : (a : Answer (List ℕ)) (s s' : List ℕ) → Takes byte a s s' → read_screen s ≡ screen_behind a s'
-screen_taken (got v) s s' t =
+pub start_taken : (s s' : List ℕ) → Takes byte (got (0x01 ∷ [])) s s' → read_screen s ≡ started_by (read_popup s' 0)
+start_taken s s' t =
     ap (λ (x : Answer (List ℕ)). and_then x
-    (λ w. pick (eqb (first w) 0x01) (and_then (read_popup s 1) (λ q. and_then (fitted q) (λ p. got (started p))))
-    (and_then (read_row screen_rows s (first w)) (λ b. got (returned b))))) (sym t.0)
-    ∙ ap (λ (x : Answer Said). pick (eqb (first v) 0x01)
-    (and_then (read_popup s 1) (λ q. and_then (fitted q) (λ p. got (started p)))) (and_then x (λ b. got (returned b))))
-    (sym (row_taken v s s' t))
-    ∙ ap (λ (x : Answer Popup). pick (eqb (first v) 0x01) (and_then x (λ q. and_then (fitted q) (λ p. got (started p))))
-    (and_then (read_behind screen_rows s' (first v)) (λ b. got (returned b))))
-    (sym (ap (λ (l : List ℕ). read_popup l 0) t.1 ∙ popup-behind s 1))
-screen_taken (refused n p) s s' t = ap
-    (λ (x : Answer (List ℕ)). and_then x
-    (λ w. pick (eqb (first w) 0x01) (and_then (read_popup s 1) (λ q. and_then (fitted q) (λ p. got (started p))))
-    (and_then (read_row screen_rows s (first w)) (λ b. got (returned b))))) (sym t.0)
+    (λ v. pick (eqb (first v) 0x01) (started_by (read_popup s 1))
+    (and_then (read_row screen_rows s (first v)) (λ b. got (returned b))))) (sym t.0)
+    ∙ ap started_by (sym (ap (λ (l : List ℕ). read_popup l 0) t.1 ∙ popup-behind s 1))

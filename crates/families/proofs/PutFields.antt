@@ -1,16 +1,17 @@
 -- A popup's parts put one behind the other. Assumes nothing.
+use Rattle.std.specs.Prelude.{Err}
 use Prim.Native.Nat.{ℕ, suc, ◌+◌, ◌<◌, ◌≤◌}
 use mathlib.Core.Bool.{Bool, true, false}
 use mathlib.Core.List.{List, [], ◌∷◌, ◌++◌, append-nil}
 use mathlib.Core.Path.{◌≡◌, refl, ap, sym, ◌∙◌}
 use native.Mathlib.Omega.{arith}
 use native.Mathlib.Nat.{zero-add}
-use lib.ListN.{length, set, replicate, length-append, length-set}
+use lib.ListN.{length, set, replicate, length-append}
 use lib.Seq.{sets, sets-eq, length-take-le}
 use Rattle.codec.specs.Pick.{pick}
 use Rattle.codec.specs.Sheet.{Answer, got, refused, first}
 use Rattle.codec.specs.Writing.{write_items, put_at}
-use Rattle.codec.specs.Refusals.{refusal_number, number_in, value_in}
+use Rattle.codec.specs.Refusals.{refusal_number, number_in}
 use Rattle.codec.specs.declared.refusal.Refusal.{Refusal}
 use Rattle.codec.specs.Told.{bit}
 use Rattle.codec.proofs.Packed.{byte-item}
@@ -19,11 +20,10 @@ use Rattle.codec.proofs.Writes.{put-fits, refusal_some}
 use Rattle.families.specs.declared.text.CommandString.{CommandString}
 use Rattle.families.specs.declared.screen.ScreenPopup.{ScreenPopup}
 use Rattle.families.specs.declared.screen.ScreenPopupFields.{ScreenPopupFields}
-use Rattle.families.specs.declared.screen.ScreenAdditionalData.{ScreenAdditionalData}
 use Rattle.families.specs.declared.screen.ScreenAdditionalData.TheVariants.{Selection}
 use Rattle.families.specs.Text.{padded, bytes_in}
 use Rattle.families.specs.Popup.{head_items, more_items, values_items, write_popup}
-use Rattle.families.specs.Fields.{head_says, more_says, values_says, popup_says, popup_of, construct}
+use Rattle.families.specs.Fields.{head_says, more_says, values_says, popup_says, popup_of, construct, PopupIs}
 use Rattle.families.specs.Sizes.{Sized, Ranged, more_size}
 use Rattle.families.proofs.Stored.{drop-zeros}
 use Rattle.families.proofs.Made.{construct-by, says_fit}
@@ -45,10 +45,6 @@ text-put s s' t at l h m e =
     let w = bytes-len t l m in
     let p : s' ≡ sets s at (bytes_in t) = e ∙ put-fits s at (bytes_in t) (rw w (omega arith)) in
     behind s s' (set s' (at + t.len) 0) (bytes_in t) (0 ∷ []) at (at + t.len) p (rw w) refl
-
--- the place of one more byte
-pub set_in : (s : List ℕ) (i v n : ℕ) → n < length s → n < length (set s i v)
-set_in s i v n h = rw (length-set s i v) h
 
 -- the head
 head_bytes_lem : (h i : List ℕ) (t : ℕ) (c : Bool) → t < 256
@@ -96,27 +92,6 @@ selection-put f z r m s s1 s3 at a f1 g1 f3 =
     rw (selection-bytes f r)
     (behind s s1 s3 (bytes_in f.selection_text ++ 0 ∷ []) (ns ++ (bytes_in f.unit ++ 0 ∷ [])) at a f1 (rw w1 g1)
     (behind s1 (sets s1 a ns) s3 ns (bytes_in f.unit ++ 0 ∷ []) a (a + 4) refl refl g))
-
--- additional data of a kind, possible values present or not
-pub more_is : (f : ScreenPopupFields) (k j : ScreenAdditionalData) → k ≡ j → (s s' : List ℕ) (at n : ℕ)
-    → (s' ≡ sets s at (write_items (more_items j) (more_says j f))) × (n ≡ at + more_size j f)
-    → (s' ≡ sets s at (write_items (more_items k) (more_says k f))) × (n ≡ at + more_size k f)
-more_is f k j e s s' at n h = rw e h
-
-pub size_is : (f : ScreenPopupFields) (k j : ScreenAdditionalData) → k ≡ j → more_size k f ≡ more_size j f
-size_is f k j e = rw e
-
-pub values-put : (f : ScreenPopupFields) (p : Bool) → p ≡ true → (s s' : List ℕ) (at n : ℕ)
-    → (s' ≡ sets s at (bytes_in f.possible_values ++ 0 ∷ [])) × (n ≡ at + (f.possible_values.len + 1))
-    → (s' ≡ sets s at (write_items (values_items p) (values_says p f))) × (n ≡ at + pick p (f.possible_values.len + 1) 0)
-values-put f p e s s' at n h = rw (e, append-nil (bytes_in f.possible_values ++ 0 ∷ [])) h
-
-pub values_none : (f : ScreenPopupFields) (p : Bool) → p ≡ false → (s : List ℕ) (at : ℕ)
-    → (s ≡ sets s at (write_items (values_items p) (values_says p f))) × (at ≡ at + pick p (f.possible_values.len + 1) 0)
-values_none f p e s at = rw e (refl, omega arith)
-
-pub values-size : (p : Bool) (n : ℕ) → p ≡ true → pick p (n + 1) 0 ≡ n + 1
-values-size p n e = rw e
 
 -- the whole
 module _ (f : ScreenPopupFields) (z : Sized f) (r : Ranged f) (h : number_in (construct f) ≡ 0) where
@@ -167,7 +142,10 @@ popup-put f h s n e l =
     let q : record { len = n; bytes = s } ≡ popup_of w = rw (p, l) in
     ap (λ (x : ScreenPopup). got x) q ∙ sym (construct-by f (popup_says f) t.0 refl t.1)
 
--- a refusal gives the blank value
-pub blank_then : {A : Type 0} (a : Answer A) (b : A) (r : Refusal) → refusal_number r ≡ number_in a → b ≡ value_in b a
-blank_then (got x) b r h = absurd (omega (arith, refusal_some r))
-blank_then (refused n p) b r h = refl
+-- what is refused is not made
+pub not_put : (f : ScreenPopupFields) (r : Refusal) → refusal_number r ≡ number_in (construct f) → PopupIs (construct f) (Err r)
+not_put f r h = by (construct f) h
+  where
+    by : (a : Answer ScreenPopup) → refusal_number r ≡ number_in a → PopupIs a (Err r)
+    by (got q) g = absurd (omega (arith, refusal_some r))
+    by (refused n p) g = g

@@ -1,6 +1,8 @@
 -- Wrong answers that the contracts of the public functions rule out: the definition that the contract names, worked out for an input
 -- where the wrong answer would be another. That no other answer is allowed there is in OneAnswer.antt, OneAnswerText.antt,
 -- OneAnswerScreen.antt and OneAnswerLengths.antt. Assumes nothing.
+use Rattle.std.specs.Prelude.{Result, Ok, Err}
+use Rattle.codec.specs.declared.refusal.Refusal.{Refusal}
 use Prim.Native.Nat.{ℕ}
 use mathlib.Core.Bool.{true, false}
 use mathlib.Core.List.{List, [], ◌∷◌, ◌++◌}
@@ -11,9 +13,6 @@ use Rattle.codec.specs.Reading.{read_item, read_body}
 use Rattle.codec.specs.Writing.{write_items, write_body, stop_in_order, stop_values_first, stop_room}
 use Rattle.codec.specs.Told.{Writes}
 use Rattle.codec.specs.declared.refusal.Refusal.TheVariants.{InvalidPayload, BufferOverflow}
-use Rattle.codec.specs.declared.refusal.Outcome.TheVariants.{Accepted}
-use Rattle.codec.specs.declared.writer.Written.{Written}
-use Rattle.codec.specs.declared.writer.Written.TheVariants.{Count, Refused}
 use Rattle.families.specs.Sheets.{fc_rows, osd_rows, vtx_rows, led_rows, general_rows, crossfire_rows, flow_rows}
 use Rattle.families.specs.Fc.{fc_says}
 use Rattle.families.specs.Osd.{osd_says}
@@ -43,10 +42,10 @@ use Rattle.families.specs.declared.screen.ScreenCommand.TheVariants.{PopupMessag
 use Rattle.families.specs.declared.payload.CommandPayload.TheVariants.{FlowControl, Ack}
 
 -- the contract of `write_to`, of VTX and of the other sheets: this answer, with these bytes left of those
-abbrev PutsInOrder : List Row → Said → Written → List ℕ → List ℕ → Type 0
+abbrev PutsInOrder : List Row → Said → Result ℕ Refusal → List ℕ → List ℕ → Type 0
 PutsInOrder rows c r s s' = Writes (stop_in_order rows (length s) c) (write_body rows c) r s s'
 
-abbrev PutsVtx : VtxCommand → Written → List ℕ → List ℕ → Type 0
+abbrev PutsVtx : VtxCommand → Result ℕ Refusal → List ℕ → List ℕ → Type 0
 PutsVtx c r s s' = Writes (stop_values_first vtx_rows (length s) (vtx_says c)) (write_body vtx_rows (vtx_says c)) r s s'
 
 -- ---- fc::read
@@ -62,11 +61,11 @@ fc_unknown = refl
 
 -- ---- fc::write_to
 -- one byte, 02, and the rest keep theirs
-pub fc_puts : PutsInOrder fc_rows (fc_says ScaleChannel) (Count 1) (8 ∷ 9 ∷ []) (0x02 ∷ 9 ∷ [])
+pub fc_puts : PutsInOrder fc_rows (fc_says ScaleChannel) (Ok 1) (8 ∷ 9 ∷ []) (0x02 ∷ 9 ∷ [])
 fc_puts = (refl, refl)
 
 -- no count without a byte for it
-pub fc_no_room : PutsInOrder fc_rows (fc_says ScaleChannel) (Refused BufferOverflow) [] []
+pub fc_no_room : PutsInOrder fc_rows (fc_says ScaleChannel) (Err BufferOverflow) [] []
 fc_no_room = (refl, refl)
 
 -- ---- osd::read
@@ -82,11 +81,11 @@ osd_more = refl
 
 -- ---- osd::write_to
 -- the buttons stand behind the sub-command
-pub osd_puts : PutsInOrder osd_rows (osd_says (record { buttons = 5 })) (Count 2) (7 ∷ 8 ∷ 9 ∷ []) (0x01 ∷ 5 ∷ 9 ∷ [])
+pub osd_puts : PutsInOrder osd_rows (osd_says (record { buttons = 5 })) (Ok 2) (7 ∷ 8 ∷ 9 ∷ []) (0x01 ∷ 5 ∷ 9 ∷ [])
 osd_puts = (refl, refl)
 
 -- where only the sub-command has room, it is not put
-pub osd_no_room : PutsInOrder osd_rows (osd_says (record { buttons = 5 })) (Refused BufferOverflow) (7 ∷ []) (7 ∷ [])
+pub osd_no_room : PutsInOrder osd_rows (osd_says (record { buttons = 5 })) (Err BufferOverflow) (7 ∷ []) (7 ∷ [])
 osd_no_room = (refl, refl)
 
 -- ---- vtx::read
@@ -102,11 +101,11 @@ vtx_pit_lem = refl
 
 -- ---- vtx::write_to
 -- the value is judged before the room
-pub vtx_values_first : PutsVtx (SetFrequency 4999) (Refused InvalidPayload) [] []
+pub vtx_values_first : PutsVtx (SetFrequency 4999) (Err InvalidPayload) [] []
 vtx_values_first = (refl, refl)
 
 -- bit 7 of the pit byte is not set, and control and switch are not exchanged
-pub vtx_puts_pit : PutsVtx (EnablePitModeOnPowerUp true 2 9) (Count 2) (7 ∷ 8 ∷ 9 ∷ []) (0x04 ∷ 0x4D ∷ 9 ∷ [])
+pub vtx_puts_pit : PutsVtx (EnablePitModeOnPowerUp true 2 9) (Ok 2) (7 ∷ 8 ∷ 9 ∷ []) (0x04 ∷ 0x4D ∷ 9 ∷ [])
 vtx_puts_pit = (refl, refl)
 
 -- ---- led::read
@@ -126,11 +125,11 @@ led_start_stop = refl
 
 -- ---- led::write_to
 -- a bad start colour is judged when the time has room, though the colours have none
-pub led_judged : PutsInOrder led_rows (led_says (OverridePulse 9 (colour 360 0 0) (colour 4 5 6))) (Refused InvalidPayload) (6 ∷ 7 ∷ 8 ∷ []) (6 ∷ 7 ∷ 8 ∷ [])
+pub led_judged : PutsInOrder led_rows (led_says (OverridePulse 9 (colour 360 0 0) (colour 4 5 6))) (Err InvalidPayload) (6 ∷ 7 ∷ 8 ∷ []) (6 ∷ 7 ∷ 8 ∷ [])
 led_judged = (refl, refl)
 
 -- and not before
-pub led_room_first : PutsInOrder led_rows (led_says (OverrideColor (colour 360 0 0))) (Refused BufferOverflow) [] []
+pub led_room_first : PutsInOrder led_rows (led_says (OverrideColor (colour 360 0 0))) (Err BufferOverflow) [] []
 led_room_first = (refl, refl)
 
 -- ---- general::read
@@ -146,11 +145,11 @@ accepted_2 = refl
 
 -- ---- general::write_to
 -- 115200 baud in four bytes, the highest first
-pub baud_put : PutsInOrder general_rows (general_says (SpeedProposal 1 115200)) (Count 6) (replicate 7 9) (0x70 ∷ 1 ∷ 0x00 ∷ 0x01 ∷ 0xC2 ∷ 0x00 ∷ 9 ∷ [])
+pub baud_put : PutsInOrder general_rows (general_says (SpeedProposal 1 115200)) (Ok 6) (replicate 7 9) (0x70 ∷ 1 ∷ 0x00 ∷ 0x01 ∷ 0xC2 ∷ 0x00 ∷ 9 ∷ [])
 baud_put = (refl, refl)
 
 -- where all but the flag has room, nothing is put
-pub general_no_room : PutsInOrder general_rows (general_says (SpeedProposalResponse 1 true)) (Refused BufferOverflow) (8 ∷ 9 ∷ []) (8 ∷ 9 ∷ [])
+pub general_no_room : PutsInOrder general_rows (general_says (SpeedProposalResponse 1 true)) (Err BufferOverflow) (8 ∷ 9 ∷ []) (8 ∷ 9 ∷ [])
 general_no_room = (refl, refl)
 
 -- ---- crossfire::read
@@ -166,11 +165,11 @@ model_missing = refl
 
 -- ---- crossfire::write_to
 -- the reply is 07, not 05
-pub reply-put : PutsInOrder crossfire_rows (crossfire_says (ReplyCurrentModelSelection 3)) (Count 2) (7 ∷ 8 ∷ 9 ∷ []) (0x07 ∷ 3 ∷ 9 ∷ [])
+pub reply-put : PutsInOrder crossfire_rows (crossfire_says (ReplyCurrentModelSelection 3)) (Ok 2) (7 ∷ 8 ∷ 9 ∷ []) (0x07 ∷ 3 ∷ 9 ∷ [])
 reply-put = (refl, refl)
 
 -- where only the sub-command has room, it is not put
-pub model_no_room : PutsInOrder crossfire_rows (crossfire_says (ModelSelection 3)) (Refused BufferOverflow) (7 ∷ []) (7 ∷ [])
+pub model_no_room : PutsInOrder crossfire_rows (crossfire_says (ModelSelection 3)) (Err BufferOverflow) (7 ∷ []) (7 ∷ [])
 model_no_room = (refl, refl)
 
 -- ---- flow_control::read
@@ -186,11 +185,11 @@ flow_order = refl
 
 -- ---- flow_control::write_to
 -- and is written there
-pub flow_puts : PutsInOrder flow_rows (flow_says (Subscribe 9 0x0102)) (Count 4) (replicate 5 7) (0x01 ∷ 9 ∷ 1 ∷ 2 ∷ 7 ∷ [])
+pub flow_puts : PutsInOrder flow_rows (flow_says (Subscribe 9 0x0102)) (Ok 4) (replicate 5 7) (0x01 ∷ 9 ∷ 1 ∷ 2 ∷ 7 ∷ [])
 flow_puts = (refl, refl)
 
 -- no interval is half written
-pub flow_no_room : PutsInOrder flow_rows (flow_says (Subscribe 9 0x0102)) (Refused BufferOverflow) (6 ∷ 7 ∷ 8 ∷ []) (6 ∷ 7 ∷ 8 ∷ [])
+pub flow_no_room : PutsInOrder flow_rows (flow_says (Subscribe 9 0x0102)) (Err BufferOverflow) (6 ∷ 7 ∷ 8 ∷ []) (6 ∷ 7 ∷ 8 ∷ [])
 flow_no_room = (refl, refl)
 
 -- ---- text::CommandString::new
@@ -240,15 +239,15 @@ ack_reads_no_2 = refl
 
 -- ---- ack::write_to
 -- its contract, with the first n of the bytes b as information
-abbrev PutsAck : CommandAck → List ℕ → ℕ → Written → List ℕ → List ℕ → Type 0
+abbrev PutsAck : CommandAck → List ℕ → ℕ → Result ℕ Refusal → List ℕ → List ℕ → Type 0
 PutsAck a b n r s s' = Writes (stop_ack (length s) (ack_says a (take n b))) (write_items ack_items (ack_says a (take n b))) r s s'
 
 -- the action is judged before the room
-pub ack_values_first : PutsAck (ack_with 1 1 2) (0x41 ∷ []) 1 (Refused InvalidPayload) [] []
+pub ack_values_first : PutsAck (ack_with 1 1 2) (0x41 ∷ []) 1 (Err InvalidPayload) [] []
 ack_values_first = (refl, refl)
 
 -- bytes behind the information are not written, and its 00 is
-pub ack_puts : PutsAck (ack_with 1 2 1) (0x41 ∷ 0x42 ∷ []) 1 (Count 5) (replicate 6 9) (1 ∷ 2 ∷ 1 ∷ 0x41 ∷ 0 ∷ 9 ∷ [])
+pub ack_puts : PutsAck (ack_with 1 2 1) (0x41 ∷ 0x42 ∷ []) 1 (Ok 5) (replicate 6 9) (1 ∷ 2 ∷ 1 ∷ 0x41 ∷ 0 ∷ 9 ∷ [])
 ack_puts = (refl, refl)
 
 -- ---- ack::made
@@ -312,9 +311,9 @@ popup-unused = refl
 -- ---- screen::read
 -- bytes behind the last item are not stored
 pub rest_not_stored : ScreenIs (read_screen (0x01 ∷ 0 ∷ 0 ∷ 0 ∷ 0 ∷ 0 ∷ 0 ∷ 9 ∷ []))
-    (record { outcome = Accepted; command = PopupMessageStart; popup = popup_of (replicate 6 0) })
+    (Ok (record { command = PopupMessageStart; popup = popup_of (replicate 6 0) }))
 unfolding read_item
-rest_not_stored = (refl, (refl, refl))
+rest_not_stored = refl
 
 -- a popup of 56 bytes
 pub popup_56_read : read_screen (0x01 ∷ replicate 51 0x41 ++ replicate 5 0) ≡ refused 1 0
@@ -323,15 +322,15 @@ popup_56_read = refl
 
 -- ---- screen::write_to
 -- its contract, with the first n of the bytes b as the popup's
-abbrev PutsScreen : ScreenCommand → List ℕ → ℕ → Written → List ℕ → List ℕ → Type 0
+abbrev PutsScreen : ScreenCommand → List ℕ → ℕ → Result ℕ Refusal → List ℕ → List ℕ → Type 0
 PutsScreen c b n r s s' = Writes (stop_room (length s) (length (screen_body c (take n b)))) (screen_body c (take n b)) r s s'
 
 -- the response stands behind the value
-pub return-put : PutsScreen (SelectionReturnValue 5 true) [] 0 (Count 3) (replicate 4 9) (0x02 ∷ 5 ∷ 1 ∷ 9 ∷ [])
+pub return-put : PutsScreen (SelectionReturnValue 5 true) [] 0 (Ok 3) (replicate 4 9) (0x02 ∷ 5 ∷ 1 ∷ 9 ∷ [])
 return-put = (refl, refl)
 
 -- no popup is half written
-pub start_no_room : PutsScreen PopupMessageStart (replicate 55 0) 4 (Refused BufferOverflow) (replicate 4 9) (replicate 4 9)
+pub start_no_room : PutsScreen PopupMessageStart (replicate 55 0) 4 (Err BufferOverflow) (replicate 4 9) (replicate 4 9)
 start_no_room = (refl, refl)
 
 -- ---- payload::command_id

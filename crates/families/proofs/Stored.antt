@@ -1,28 +1,29 @@
 -- Loops over stored bytes, and a part copied over zeros. Assumes nothing.
 use Prim.Native.Nat.{ℕ, zero, suc, ◌+◌, ◌-◌, ◌<◌, ◌≤◌}
-use mathlib.Core.Bool.{Bool, true, false}
-use mathlib.Core.List.{List, ◌++◌}
+use mathlib.Core.Bool.{Bool, true, false, not, ◌&&◌}
+use mathlib.Core.List.{List, [], ◌∷◌}
 use mathlib.Core.Path.{◌≡◌, refl}
 use native.Mathlib.Omega.{arith}
 use native.Mathlib.Numerals.{add-one}
-use native.Mathlib.Nat.{add-sub_cancel_left, zero-sub, sub-zero, suc-sub-suc}
+use native.Mathlib.Nat.{zero-sub, sub-zero, suc-sub-suc}
 use lib.Bits.{bit_or, or_zero_l, or_add_and, and_le_r}
 use lib.Dec.{eqb}
 use lib.ListN.{length, get_or, drop, take, replicate, drop_of_length-le, length-drop}
-use lib.Seq.{drop-cons, take_all, length-take-le}
-use borrow.Author.Tests.{eq-eqb, ne_eqb, le-leb}
+use lib.Seq.{drop-cons, take_all}
+use borrow.Author.Tests.{ne_eqb, le-leb}
+use Rattle.std.specs.List.{list_all}
 use Rattle.codec.specs.Pick.{pick}
 use Rattle.codec.specs.Writing.{nonzero}
-use Rattle.families.specs.Text.{zeros, made_bytes, padded, text_of}
+use Rattle.families.specs.Text.{zeros, made_bytes}
 
-pub nonzero-stop : (s : List ℕ) (i : ℕ) → i < length s → get_or s i 0 ≡ 0 → nonzero (drop i s) ≡ false
-nonzero-stop s i h e = rw (drop-cons s i 0 h, eq-eqb (get_or s i 0) 0 e)
-
-pub nonzero-on : (s : List ℕ) (i : ℕ) → i < length s → (get_or s i 0 ≡ 0 → ⊥) → nonzero (drop i s) ≡ nonzero (drop (i + 1) s)
-nonzero-on s i h e = rw (drop-cons s i 0 h, ne_eqb (get_or s i 0) 0 e, add-one)
-
-pub nonzero_end : (s : List ℕ) (i : ℕ) → length s ≤ i → nonzero (drop i s) ≡ true
-nonzero_end s i h = rw (drop_of_length-le s h)
+-- every byte passes a test that none is zero
+pub all-nonzero : (s : List ℕ) → list_all (λ b. not (eqb b 0)) s ≡ nonzero s
+all-nonzero [] = refl
+all-nonzero (b ∷ s) = by (eqb b 0) (all-nonzero s)
+  where
+    by : (t : Bool) → list_all (λ c. not (eqb c 0)) s ≡ nonzero s → (not t && list_all (λ c. not (eqb c 0)) s) ≡ pick t false (nonzero s)
+    by true h = refl
+    by false h = h
 
 -- no byte seen is nonzero: none so far, nor this one
 or_none : (a b : ℕ) → eqb (bit_or a b) 0 ≡ pick (eqb a 0) (eqb b 0) false
@@ -54,20 +55,6 @@ pub drop-zeros : (k m : ℕ) → drop {A = ℕ} k (replicate m 0) ≡ replicate 
 drop-zeros zero m = rw sub-zero
 drop-zeros (suc k) zero = rw zero-sub
 drop-zeros (suc k) (suc m) = rw suc-sub-suc (drop-zeros k m)
-
--- a part that is copied over zeros
-pub copied : (s : List ℕ) (at n m : ℕ) (new : List ℕ) → at + n ≤ length s → new ≡ take (at + n - at) (drop at s)
-    → new ++ drop n (replicate m 0) ≡ padded m (take n (drop at s))
-copied s at n m new h e =
-    let k : n ≤ length (drop at s) = rw length-drop (omega arith) in
-    rw (e, add-sub_cancel_left at n, drop-zeros n m, length-take-le n (drop at s) k)
-
--- the same as a text: its length is that of its bytes
-pub text_is : (s b : List ℕ) (at n : ℕ) → at + n ≤ length s → b ≡ padded 51 (take n (drop at s)) → record { len = n; bytes = b } ≡ text_of (take n (drop at s))
-text_is s b at n h e =
-    let k : n ≤ length (drop at s) = rw length-drop (omega arith) in
-    let l : length (take n (drop at s)) ≡ n = length-take-le n (drop at s) k in
-    rw (e, l)
 
 -- fewer bytes than the length says: they are all there is to judge
 pub made-short : (most n : ℕ) (b : List ℕ) → n ≤ most → length b < n → made_bytes most n b ≡ nonzero b

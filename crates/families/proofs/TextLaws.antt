@@ -1,17 +1,17 @@
 -- The text constructor way by way; what is made is what stands for some bytes. Assumes nothing.
+use Rattle.std.specs.Prelude.{Ok}
 use Prim.Native.Nat.{ℕ, zero, suc, ◌-◌, ◌<◌, ◌≤◌}
 use mathlib.Core.Bool.{Bool, true, false}
 use mathlib.Core.List.{List, [], ◌∷◌, ◌++◌}
 use mathlib.Core.Path.{◌≡◌, refl, ap, sym, ◌∙◌}
 use native.Mathlib.Omega.{arith}
 use lib.ListN.{length, drop, take, replicate, take-append-drop, length-drop}
-use lib.Seq.{take-length, take-append_seam, drop-append_seam, length-take-le}
+use lib.Seq.{take-append_seam, drop-append_seam, length-take-le}
 use lib.Dec.{leb, eqb}
 use borrow.Author.Tests.{le-leb, lt-leb, leb-true, eqb-true}
 use Rattle.codec.specs.Pick.{pick}
 use Rattle.codec.specs.Sheet.{got, refused}
 use Rattle.codec.specs.Writing.{nonzero}
-use Rattle.codec.specs.declared.refusal.Outcome.TheVariants.{Accepted}
 use Rattle.codec.proofs.Back.{both}
 use Rattle.families.specs.Text.{zeros, made_bytes, made_text, padded, text_of, bytes_in, new_text, TextIs}
 use Rattle.families.specs.declared.text.CommandString.{CommandString}
@@ -26,9 +26,8 @@ new-long v h l = rw (h, lt-leb (length v) 51 l)
 pub new-got : (v : List ℕ) → nonzero v ≡ true → length v ≤ 51 → new_text v ≡ got v
 new-got v h l = rw (h, le-leb (length v) 51 l)
 
-pub new-text : (v : List ℕ) (t : CommandString) → nonzero v ≡ true → length v ≤ 51 → t ≡ text_of (take (length v) (drop 0 v))
-    → TextIs (new_text v) (record { outcome = Accepted; text = t })
-new-text v t h l e = rw (new-got v h l) (refl, rw (take-length v) at e)
+pub new-text : (v : List ℕ) (t : CommandString) → nonzero v ≡ true → length v ≤ 51 → t ≡ text_of v → TextIs (new_text v) (Ok t)
+new-text v t h l e = rw (new-got v h l) e
 
 -- what it takes
 pub new_range : (v w : List ℕ) → new_text v ≡ got w → (v ≡ w) × ((nonzero v ≡ true) × (length v ≤ 51))

@@ -1,15 +1,16 @@
 -- 0xFF ACK, no sub-command byte of its own: command id(1), sub id(1), action 0 or 1, information up to 52 bytes, 00. Assumes nothing.
-use Rattle.std.specs.Prelude.{ℕ, Bool, ◌≡◌, List, [], ◌∷◌, length, get_or, leb}
+use Rattle.std.specs.Prelude.{Result}
+use Rattle.codec.specs.declared.refusal.Refusal.{Refusal}
+use Rattle.std.specs.Prelude.{ℕ, Bool, List, [], ◌∷◌, length, get_or, leb}
 use Rattle.codec.specs.Pick.{pick}
 use Rattle.codec.specs.Sheet.{Answer, got, refused, and_then, Item, text, byte, flag, first}
 use Rattle.codec.specs.Reading.{read_items}
 use Rattle.codec.specs.Writing.{nonzero, ok_item, write_items, stop_room}
-use Rattle.codec.specs.Refusals.{outcome_number, number_in, value_in}
+use Rattle.codec.specs.Refusals.{Gives}
 use Rattle.codec.specs.Told.{Writes}
-use Rattle.codec.specs.declared.writer.Written.{Written}
 use Rattle.families.specs.Text.{padded, made_bytes}
 use Rattle.families.specs.declared.ack.CommandAck.{CommandAck}
-use Rattle.families.specs.declared.ack.AckAnswer.{AckAnswer}
+use Rattle.families.specs.declared.ack.AckRead.{AckRead}
 
 abbrev pub ack_items : List Item
 ack_items = byte ∷ byte ∷ flag ∷ text 0 52 ∷ []
@@ -40,22 +41,19 @@ stop_ack room vs = pick (action_ok vs) (stop_room room (length (write_items ack_
 abbrev pub new_ack : CommandAck → List ℕ → Answer (List (List ℕ))
 new_ack a t = pick (leb (length t) 52) (pick (action_ok (ack_says a t)) (pick (nonzero t) (got (ack_says a t)) (refused 2 0)) (refused 2 0)) (refused 1 0)
 
--- "a blank .. ACK .. has length 0 and zeros throughout"
-abbrev pub blank_ack : List (List ℕ)
-blank_ack = (0 ∷ []) ∷ (0 ∷ []) ∷ (0 ∷ []) ∷ [] ∷ []
-
 abbrev pub ack_of : List (List ℕ) → CommandAck
 ack_of vs = record { command_id = first (get_or vs 0 []); sub_command_id = first (get_or vs 1 []); action = first (get_or vs 2 []) }
 
--- what reading and the constructor answer: the ACK, and its information beside it
-abbrev pub AckIs : Answer (List (List ℕ)) → AckAnswer → Type 0
-AckIs a r =
-    (outcome_number r.outcome ≡ number_in a)
-    × ((r.ack ≡ ack_of (value_in blank_ack a))
-    × ((r.len ≡ length (get_or (value_in blank_ack a) 3 [])) × (r.bytes ≡ padded 55 (get_or (value_in blank_ack a) 3 []))))
+-- the ACK, and its information beside it
+abbrev pub acked : List (List ℕ) → AckRead
+acked vs = record { ack = ack_of vs; len = length (get_or vs 3 []); bytes = padded 55 (get_or vs 3 []) }
+
+-- what reading and the constructor answer
+abbrev pub AckIs : Answer (List (List ℕ)) → Result AckRead Refusal → Type 0
+AckIs a r = Gives acked a r
 
 -- WRITING an ACK with its information answers r and leaves s' of s
-abbrev pub WritesAck : CommandAck → List ℕ → Written → List ℕ → List ℕ → Type 0
+abbrev pub WritesAck : CommandAck → List ℕ → Result ℕ Refusal → List ℕ → List ℕ → Type 0
 WritesAck a t r s s' = Writes (stop_ack (length s) (ack_says a t)) (write_items ack_items (ack_says a t)) r s s'
 
 -- "An ACK's action is outside this and is judged on writing."

@@ -1,12 +1,12 @@
 -- 0x10 Crossfire: what each command says, and what a reading tells. Assumes nothing.
+use Rattle.std.specs.Prelude.{Result}
+use Rattle.codec.specs.declared.refusal.Refusal.{Refusal}
 use Rattle.std.specs.Prelude.{[], ◌∷◌, eqb}
 use Rattle.codec.specs.Pick.{pick}
-use Rattle.codec.specs.Sheet.{Answer, got, refused, Said, said, item_number}
-use Rattle.codec.specs.Refusals.{refusal_number}
+use Rattle.codec.specs.Sheet.{Answer, Said, said, item_number}
+use Rattle.codec.specs.Refusals.{told}
 use Rattle.families.specs.declared.crossfire.CrossfireCommand.{CrossfireCommand}
 use Rattle.families.specs.declared.crossfire.CrossfireCommand.TheVariants.{SetReceiverInBindMode, CancelBindMode, SetBindId, ModelSelection, CurrentModelSelection, ReplyCurrentModelSelection, EnableRxTelemetry, DisableRxTelemetry, FactoryReset, ResetToFactoryFirmware}
-use Rattle.families.specs.declared.crossfire.CrossfireRead.{CrossfireRead}
-use Rattle.families.specs.declared.crossfire.CrossfireRead.TheVariants.{Got, Refused}
 
 abbrev pub crossfire_says : CrossfireCommand → Said
 crossfire_says SetReceiverInBindMode = said 0x01 []
@@ -33,6 +33,5 @@ crossfire_of (said sub vs) =
     (pick (eqb sub 0x0B) DisableRxTelemetry
     (pick (eqb sub 0x0C) FactoryReset ResetToFactoryFirmware))))))))
 
-abbrev pub told_crossfire : CrossfireRead → Answer Said
-told_crossfire (Got c) = got (crossfire_says c)
-told_crossfire (Refused r) = refused (refusal_number r) 0
+abbrev pub told_crossfire : Result CrossfireCommand Refusal → Answer Said
+told_crossfire r = told crossfire_says r

@@ -1,18 +1,17 @@
 -- Document 01: a popup's fields, its constructor, its inspection, and what made means. Assumes nothing.
-use Rattle.std.specs.Prelude.{ℕ, zero, suc, Bool, true, false, ◌≡◌, List, [], ◌∷◌, ◌++◌, length, take, drop, get_or, leb, eqb}
+use Rattle.std.specs.Prelude.{Result, ℕ, zero, suc, Bool, true, false, ◌≡◌, List, [], ◌∷◌, ◌++◌, length, take, drop, get_or, leb, eqb}
 use Rattle.codec.specs.Pick.{pick}
 use Rattle.codec.specs.Sheet.{Answer, got, refused, first}
 use Rattle.codec.specs.Writing.{stop_each}
 use Rattle.codec.specs.Told.{bit}
-use Rattle.codec.specs.Refusals.{outcome_number, number_in, value_in}
+use Rattle.codec.specs.Refusals.{Gives}
 use Rattle.families.specs.Text.{zeros, padded, made_text, text_of, bytes_in}
 use Rattle.families.specs.Popup.{popup_items, Popup, popup, alone, read_popup, write_popup}
 use Rattle.families.specs.declared.screen.ScreenAdditionalData.{ScreenAdditionalData}
 use Rattle.families.specs.declared.screen.ScreenAdditionalData.TheVariants.{Absent, Empty, Selection}
 use Rattle.families.specs.declared.screen.ScreenPopup.{ScreenPopup}
 use Rattle.families.specs.declared.screen.ScreenPopupFields.{ScreenPopupFields}
-use Rattle.families.specs.declared.screen.PopupAnswer.{PopupAnswer}
-use Rattle.families.specs.declared.screen.FieldsAnswer.{FieldsAnswer}
+use Rattle.codec.specs.declared.refusal.Refusal.{Refusal}
 
 -- WHAT FIELDS SAY: "absent items aren't looked at"
 abbrev pub head_says : ScreenPopupFields → List (List ℕ)
@@ -71,8 +70,8 @@ unless (suc n) q = refused (suc n) 0
 abbrev pub construct : ScreenPopupFields → Answer ScreenPopup
 construct f = pick (made_texts f) (unless (stop_popup (popup_says f)) (popup_says f)) (refused 5 0)
 
-abbrev pub PopupIs : Answer ScreenPopup → PopupAnswer → Type 0
-PopupIs a r = (outcome_number r.outcome ≡ number_in a) × (r.popup ≡ value_in (popup_of []) a)
+abbrev pub PopupIs : Answer ScreenPopup → Result ScreenPopup Refusal → Type 0
+PopupIs a r = Gives (λ q. q) a r
 
 -- MADE: "popup bytes exactly what the popup constructor gives for some fields"
 abbrev pub MadePopup : ScreenPopup → Type 0
@@ -121,8 +120,8 @@ inspect q =
     (pick (zeros (drop q.len q.bytes)) (whole q.len (read_popup (take q.len q.bytes) 0)) (refused 5 0))
     (refused 5 0)
 
-abbrev pub FieldsIs : Answer ScreenPopupFields → FieldsAnswer → Type 0
-FieldsIs a r = (outcome_number r.outcome ≡ number_in a) × (r.fields ≡ value_in blank_fields a)
+abbrev pub FieldsIs : Answer ScreenPopupFields → Result ScreenPopupFields Refusal → Type 0
+FieldsIs a r = Gives (λ f. f) a r
 
 -- MADE, decided: inspection gives its fields (proofs/Made.antt: the same as MadePopup)
 abbrev pub is_got : {A : Type 0} → Answer A → Bool

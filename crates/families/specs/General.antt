@@ -1,13 +1,13 @@
 -- 0x0A General: what each command says, and what a reading tells. Assumes nothing.
+use Rattle.std.specs.Prelude.{Result}
+use Rattle.codec.specs.declared.refusal.Refusal.{Refusal}
 use Rattle.std.specs.Prelude.{[], ◌∷◌, eqb}
 use Rattle.codec.specs.Pick.{pick}
-use Rattle.codec.specs.Sheet.{Answer, got, refused, Said, said, item_number}
-use Rattle.codec.specs.Refusals.{refusal_number}
+use Rattle.codec.specs.Sheet.{Answer, Said, said, item_number}
+use Rattle.codec.specs.Refusals.{told}
 use Rattle.codec.specs.Told.{bit}
 use Rattle.families.specs.declared.general.GeneralCommand.{GeneralCommand}
 use Rattle.families.specs.declared.general.GeneralCommand.TheVariants.{SpeedProposal, SpeedProposalResponse}
-use Rattle.families.specs.declared.general.GeneralRead.{GeneralRead}
-use Rattle.families.specs.declared.general.GeneralRead.TheVariants.{Got, Refused}
 
 abbrev pub general_says : GeneralCommand → Said
 general_says (SpeedProposal port baud) = said 0x70 ((port ∷ []) ∷ (baud ∷ []) ∷ [])
@@ -18,6 +18,5 @@ abbrev pub general_of : Said → GeneralCommand
 general_of (said sub vs) =
     pick (eqb sub 0x70) (SpeedProposal (item_number vs 0) (item_number vs 1)) (SpeedProposalResponse (item_number vs 0) (eqb (item_number vs 1) 1))
 
-abbrev pub told_general : GeneralRead → Answer Said
-told_general (Got c) = got (general_says c)
-told_general (Refused r) = refused (refusal_number r) 0
+abbrev pub told_general : Result GeneralCommand Refusal → Answer Said
+told_general r = told general_says r

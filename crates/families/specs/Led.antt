@@ -1,22 +1,19 @@
 -- 0x09 LED: what a colour and each command say, and what a reading tells. Assumes nothing.
+use Rattle.std.specs.Prelude.{Result, Ok, Err, ◌≡◌}
+use Rattle.codec.specs.declared.refusal.Refusal.{Refusal}
 use Rattle.std.specs.Prelude.{ℕ, ◌+◌, List, [], ◌∷◌, ◌++◌, get_or, eqb, ltb}
 use Rattle.codec.specs.Pick.{pick}
 use Rattle.codec.specs.Sheet.{Answer, got, refused, Said, said, item_number}
-use Rattle.codec.specs.Digits.{split, bytes_of}
+use Rattle.codec.specs.Digits.{bytes_of}
 use Rattle.codec.specs.Writing.{ok_item, item_bytes, stop_room}
-use Rattle.codec.specs.Refusals.{refusal_number}
-use Rattle.codec.specs.declared.reader.NumberRead.{NumberRead}
-use Rattle.codec.specs.declared.reader.NumberRead.TheVariants.{Got as GotNumber, Refused as RefusedNumber}
+use Rattle.codec.specs.Reading.{read_item}
+use Rattle.codec.specs.Taking.{Takes}
+use Rattle.codec.specs.Refusals.{refusal_number, told}
 use Rattle.families.specs.Sheets.{colour}
-use Rattle.families.specs.declared.led.FadeRead.{FadeRead}
-use Rattle.families.specs.declared.led.FadeRead.TheVariants.{Got as GotFade, Refused as RefusedFade}
 use Rattle.families.specs.declared.led.LedColor.{LedColor}
-use Rattle.families.specs.declared.led.ColorRead.{ColorRead}
-use Rattle.families.specs.declared.led.ColorRead.TheVariants.{Got as GotColor, Refused as RefusedColor}
+use Rattle.families.specs.declared.led.Fade.{Fade}
 use Rattle.families.specs.declared.led.LedCommand.{LedCommand}
 use Rattle.families.specs.declared.led.LedCommand.TheVariants.{SetDefault, OverrideColor, OverridePulse, OverrideBlink, OverrideShift}
-use Rattle.families.specs.declared.led.LedRead.{LedRead}
-use Rattle.families.specs.declared.led.LedRead.TheVariants.{Got, Refused}
 
 abbrev pub color_says : LedColor → List ℕ
 color_says c = c.hue ∷ c.saturation ∷ c.value ∷ []
@@ -40,23 +37,17 @@ led_of (said sub vs) =
     (pick (eqb sub 0x04) (OverrideBlink (item_number vs 0) (color_of (get_or vs 1 [])) (color_of (get_or vs 2 [])))
     (OverrideShift (item_number vs 0) (color_of (get_or vs 1 []))))))
 
-abbrev pub told_color : ColorRead → Answer (List ℕ)
-told_color (GotColor c) = got (color_says c)
-told_color (RefusedColor r) = refused (refusal_number r) 0
+abbrev pub told_led : Result LedCommand Refusal → Answer Said
+told_led r = told led_says r
 
-abbrev pub told_led : LedRead → Answer Said
-told_led (Got c) = got (led_says c)
-told_led (Refused r) = refused (refusal_number r) 0
-
--- For contracts of private functions, nobody has to believe what follows. The number of three bytes, judged as a colour
-abbrev pub color_told : NumberRead → Answer (List ℕ)
-color_told (GotNumber n) = pick (ok_item colour (split (9 ∷ 7 ∷ 8 ∷ []) n)) (got (split (9 ∷ 7 ∷ 8 ∷ []) n)) (refused 2 0)
-color_told (RefusedNumber r) = refused (refusal_number r) 0
+-- For contracts of private functions, nobody has to believe what follows. A colour taken from the front of s leaves s'
+abbrev pub TakesColor : Result LedColor Refusal → List ℕ → List ℕ → Type 0
+TakesColor (Ok c) s s' = Takes colour (got (color_says c)) s s'
+TakesColor (Err r) s s' = refused (refusal_number r) 0 ≡ read_item colour s
 
 -- the values of a pulse or a blink
-abbrev pub told_fade : FadeRead → Answer (List (List ℕ))
-told_fade (GotFade f) = got ((f.time ∷ []) ∷ color_says f.start ∷ color_says f.stop ∷ [])
-told_fade (RefusedFade r) = refused (refusal_number r) 0
+abbrev pub told_fade : Result Fade Refusal → Answer (List (List ℕ))
+told_fade r = told (λ f. (f.time ∷ []) ∷ color_says f.start ∷ color_says f.stop ∷ []) r
 
 -- what a pulse or a blink says, by its sub-command
 abbrev pub fade_says : ℕ → ℕ → LedColor → LedColor → Said

@@ -1,19 +1,19 @@
 -- 0x22 Screen: 01 popup; 02 value(1), response(flag). Assumes nothing.
-use Rattle.std.specs.Prelude.{ℕ, ◌≡◌, List, [], ◌∷◌, drop, get_or, eqb}
+use Rattle.std.specs.Prelude.{Result, ℕ, List, [], ◌∷◌, drop, get_or, eqb}
 use Rattle.codec.specs.Pick.{pick}
 use Rattle.codec.specs.Sheet.{Answer, got, and_then, Said, said, byte, first}
 use Rattle.codec.specs.Reading.{read_item, read_row}
-use Rattle.codec.specs.Taking.{read_behind}
 use Rattle.codec.specs.Writing.{write_body}
 use Rattle.codec.specs.Told.{bit}
-use Rattle.codec.specs.Refusals.{outcome_number, number_in, value_in}
+use Rattle.codec.specs.Refusals.{Gives}
 use Rattle.families.specs.Sheets.{screen_rows}
 use Rattle.families.specs.Popup.{Popup, read_popup, write_popup, fitted}
 use Rattle.families.specs.Fields.{popup_of}
 use Rattle.families.specs.declared.screen.ScreenPopup.{ScreenPopup}
 use Rattle.families.specs.declared.screen.ScreenCommand.{ScreenCommand}
 use Rattle.families.specs.declared.screen.ScreenCommand.TheVariants.{PopupMessageStart, SelectionReturnValue}
-use Rattle.families.specs.declared.screen.ScreenAnswer.{ScreenAnswer}
+use Rattle.codec.specs.declared.refusal.Refusal.{Refusal}
+use Rattle.families.specs.declared.screen.ScreenRead.{ScreenRead}
 
 -- what a screen command says: a popup, or a returned value and its response
 pub data ScreenSaid : Type 0 where
@@ -39,14 +39,12 @@ abbrev pub stored_of : ScreenSaid → ScreenPopup
 stored_of (started q) = popup_of (write_popup q)
 stored_of (returned b) = popup_of []
 
--- refused: a returned 0, cancelled, with nothing stored
-abbrev pub blank_screen : ScreenSaid
-blank_screen = returned (said 0x02 ((0 ∷ []) ∷ (0 ∷ []) ∷ []))
+-- the command, and the stored bytes
+abbrev pub screen_read : ScreenSaid → ScreenRead
+screen_read q = record { command = screen_of q; popup = stored_of q }
 
-abbrev pub ScreenIs : Answer ScreenSaid → ScreenAnswer → Type 0
-ScreenIs a r =
-    (outcome_number r.outcome ≡ number_in a)
-    × ((r.command ≡ screen_of (value_in blank_screen a)) × (r.popup ≡ stored_of (value_in blank_screen a)))
+abbrev pub ScreenIs : Answer ScreenSaid → Result ScreenRead Refusal → Type 0
+ScreenIs a r = Gives screen_read a r
 
 -- THE body, with these popup bytes beside the command
 abbrev pub screen_body : ScreenCommand → List ℕ → List ℕ
@@ -56,13 +54,6 @@ screen_body (SelectionReturnValue value response) w = write_body screen_rows (sa
 -- For contracts of private functions, nobody has to believe what follows. A body whose sub-command was answered, from the bytes behind it
 abbrev pub started_by : Answer Popup → Answer ScreenSaid
 started_by a = and_then a (λ q. and_then (fitted q) (λ p. got (started p)))
-
-abbrev pub screen_behind : Answer (List ℕ) → List ℕ → Answer ScreenSaid
-screen_behind a s =
-    and_then a (λ v.
-    pick (eqb (first v) 0x01)
-    (started_by (read_popup s 0))
-    (and_then (read_behind screen_rows s (first v)) (λ b. got (returned b))))
 
 abbrev pub returned_by : Answer (List (List ℕ)) → Answer ScreenSaid
 returned_by a = and_then (and_then a (λ vs. got (said 0x02 vs))) (λ b. got (returned b))

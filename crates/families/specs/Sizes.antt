@@ -48,10 +48,7 @@ stop_sizes h Absent l u p v = pick p 2 (over h)
 stop_sizes h Empty l u p v = over (h + 1 + pick p (v + 1) 0)
 stop_sizes h Selection l u p v = stop_selection h l u (pick p (v + 1) 0)
 
--- its lengths are those of texts that are made, where they are present
-abbrev pub SizesFit : ℕ → ScreenAdditionalData → ℕ → ℕ → Bool → ℕ → Type 0
-SizesFit h k l u p v = (h ≤ 106) × ((k ≡ Selection → (l ≤ 51) × (u ≤ 51)) × (p ≡ true → v ≤ 51))
-
+-- the lengths of texts that are present are those of texts that are made
 abbrev pub SelectionFits : ScreenPopupFields → Type 0
 SelectionFits f = (f.selection_text.len ≤ 51) × (f.unit.len ≤ 51)
 

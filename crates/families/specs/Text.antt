@@ -1,11 +1,11 @@
 -- Document 01: texts, their constructor, and stored bytes that are made. Assumes nothing.
-use Rattle.std.specs.Prelude.{ℕ, ◌-◌, Bool, true, false, ◌≡◌, List, [], ◌∷◌, ◌++◌, length, take, drop, replicate, leb, eqb}
+use Rattle.std.specs.Prelude.{Result, ℕ, ◌-◌, Bool, true, false, List, [], ◌∷◌, ◌++◌, length, take, drop, replicate, leb, eqb}
 use Rattle.codec.specs.Pick.{pick}
 use Rattle.codec.specs.Sheet.{Answer, got, refused}
 use Rattle.codec.specs.Writing.{nonzero}
-use Rattle.codec.specs.Refusals.{outcome_number, number_in, value_in}
+use Rattle.codec.specs.Refusals.{Gives}
 use Rattle.families.specs.declared.text.CommandString.{CommandString}
-use Rattle.families.specs.declared.text.TextAnswer.{TextAnswer}
+use Rattle.codec.specs.declared.refusal.Refusal.{Refusal}
 
 abbrev pub zeros : List ℕ → Bool
 zeros [] = true
@@ -34,5 +34,5 @@ abbrev pub new_text : List ℕ → Answer (List ℕ)
 new_text v = pick (nonzero v) (pick (leb (length v) 51) (got v) (refused 1 0)) (refused 2 0)
 
 -- what the constructor answers
-abbrev pub TextIs : Answer (List ℕ) → TextAnswer → Type 0
-TextIs a r = (outcome_number r.outcome ≡ number_in a) × (r.text ≡ text_of (value_in [] a))
+abbrev pub TextIs : Answer (List ℕ) → Result CommandString Refusal → Type 0
+TextIs a r = Gives text_of a r

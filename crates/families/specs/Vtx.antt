@@ -1,13 +1,13 @@
 -- 0x08 VTX: what each command says, and what a reading tells. Assumes nothing.
+use Rattle.std.specs.Prelude.{Result}
+use Rattle.codec.specs.declared.refusal.Refusal.{Refusal}
 use Rattle.std.specs.Prelude.{ℕ, List, [], ◌∷◌, get_or, eqb}
 use Rattle.codec.specs.Pick.{pick}
-use Rattle.codec.specs.Sheet.{Answer, got, refused, Said, said, item_number}
-use Rattle.codec.specs.Refusals.{refusal_number}
+use Rattle.codec.specs.Sheet.{Answer, Said, said, item_number}
+use Rattle.codec.specs.Refusals.{told}
 use Rattle.codec.specs.Told.{bit}
 use Rattle.families.specs.declared.vtx.VtxCommand.{VtxCommand}
 use Rattle.families.specs.declared.vtx.VtxCommand.TheVariants.{SetFrequency, EnablePitModeOnPowerUp, PowerUpFromPitMode, SetDynamicPower, SetPower}
-use Rattle.families.specs.declared.vtx.VtxRead.{VtxRead}
-use Rattle.families.specs.declared.vtx.VtxRead.TheVariants.{Got, Refused}
 
 abbrev pub vtx_says : VtxCommand → Said
 vtx_says (SetFrequency f) = said 0x02 ((f ∷ []) ∷ [])
@@ -27,6 +27,5 @@ vtx_of (said sub vs) =
     (pick (eqb sub 0x05) PowerUpFromPitMode
     (pick (eqb sub 0x06) (SetDynamicPower (item_number vs 0)) (SetPower (item_number vs 0)))))
 
-abbrev pub told_vtx : VtxRead → Answer Said
-told_vtx (Got c) = got (vtx_says c)
-told_vtx (Refused r) = refused (refusal_number r) 0
+abbrev pub told_vtx : Result VtxCommand Refusal → Answer Said
+told_vtx r = told vtx_says r

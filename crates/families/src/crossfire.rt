@@ -6,9 +6,9 @@ ghost use Rattle.codec.specs.Told.{WritesInOrder};
 ghost use Rattle.families.specs.Sheets.{crossfire_rows};
 ghost use Rattle.families.specs.Crossfire.{crossfire_says, told_crossfire};
 
-use codec::reader::{NumberRead, read_byte};
+use codec::reader::read_byte;
 use codec::refusal::Refusal;
-use codec::writer::{SUB_COMMAND_LEN, WITH_BYTE_LEN, Written, write_alone, write_with_byte};
+use codec::writer::{SUB_COMMAND_LEN, WITH_BYTE_LEN, write_alone, write_with_byte};
 
 pub const SUB_COMMAND_ID_CROSSFIRE_SET_RECEIVER_IN_BIND_MODE: u8 = 0x01;
 
@@ -44,59 +44,30 @@ pub enum CrossfireCommand {
     ResetToFactoryFirmware,
 }
 
-#[derive(Clone, Copy)]
-pub enum CrossfireRead {
-    Got(CrossfireCommand),
-    Refused(Refusal),
-}
-
-pub fn read(body: &[u8]) -> CrossfireRead
+pub fn read(body: &[u8]) -> Result<CrossfireCommand, Refusal>
     ensures { told_crossfire result ≡ read_body crossfire_rows body.now }
 {
-    let sub = match read_byte(body, 0) {
-        NumberRead::Got(sub) => sub as u8,
-        NumberRead::Refused(r) => return CrossfireRead::Refused(r),
-    };
-    match sub {
-        SUB_COMMAND_ID_CROSSFIRE_SET_RECEIVER_IN_BIND_MODE => CrossfireRead::Got(
+    Ok(match read_byte(body, 0)? {
+        SUB_COMMAND_ID_CROSSFIRE_SET_RECEIVER_IN_BIND_MODE =>
             CrossfireCommand::SetReceiverInBindMode,
-        ),
-        SUB_COMMAND_ID_CROSSFIRE_CANCEL_BIND_MODE => CrossfireRead::Got(
-            CrossfireCommand::CancelBindMode,
-        ),
-        SUB_COMMAND_ID_CROSSFIRE_SET_BIND_ID => CrossfireRead::Got(CrossfireCommand::SetBindId),
-        SUB_COMMAND_ID_CROSSFIRE_MODEL_SELECTION => match read_byte(body, 1) {
-            NumberRead::Got(model) => CrossfireRead::Got(CrossfireCommand::ModelSelection(
-                model as u8,
-            )),
-            NumberRead::Refused(r) => CrossfireRead::Refused(r),
-        },
-        SUB_COMMAND_ID_CROSSFIRE_CURRENT_MODEL_SELECTION => CrossfireRead::Got(
-            CrossfireCommand::CurrentModelSelection,
-        ),
-        SUB_COMMAND_ID_CROSSFIRE_REPLY_CURRENT_MODEL_SELECTION => match read_byte(body, 1) {
-            NumberRead::Got(model) => CrossfireRead::Got(
-                CrossfireCommand::ReplyCurrentModelSelection(model as u8),
-            ),
-            NumberRead::Refused(r) => CrossfireRead::Refused(r),
-        },
-        SUB_COMMAND_ID_CROSSFIRE_ENABLE_RX_TELEMETRY => CrossfireRead::Got(
-            CrossfireCommand::EnableRxTelemetry,
-        ),
-        SUB_COMMAND_ID_CROSSFIRE_DISABLE_RX_TELEMETRY => CrossfireRead::Got(
-            CrossfireCommand::DisableRxTelemetry,
-        ),
-        SUB_COMMAND_ID_CROSSFIRE_FACTORY_RESET => CrossfireRead::Got(
-            CrossfireCommand::FactoryReset,
-        ),
-        SUB_COMMAND_ID_CROSSFIRE_RESET_TO_FACTORY_FIRMWARE => CrossfireRead::Got(
+        SUB_COMMAND_ID_CROSSFIRE_CANCEL_BIND_MODE => CrossfireCommand::CancelBindMode,
+        SUB_COMMAND_ID_CROSSFIRE_SET_BIND_ID => CrossfireCommand::SetBindId,
+        SUB_COMMAND_ID_CROSSFIRE_MODEL_SELECTION => CrossfireCommand::ModelSelection(read_byte(
+            body, 1,
+        )?),
+        SUB_COMMAND_ID_CROSSFIRE_CURRENT_MODEL_SELECTION => CrossfireCommand::CurrentModelSelection,
+        SUB_COMMAND_ID_CROSSFIRE_REPLY_CURRENT_MODEL_SELECTION =>
+            CrossfireCommand::ReplyCurrentModelSelection(read_byte(body, 1)?),
+        SUB_COMMAND_ID_CROSSFIRE_ENABLE_RX_TELEMETRY => CrossfireCommand::EnableRxTelemetry,
+        SUB_COMMAND_ID_CROSSFIRE_DISABLE_RX_TELEMETRY => CrossfireCommand::DisableRxTelemetry,
+        SUB_COMMAND_ID_CROSSFIRE_FACTORY_RESET => CrossfireCommand::FactoryReset,
+        SUB_COMMAND_ID_CROSSFIRE_RESET_TO_FACTORY_FIRMWARE =>
             CrossfireCommand::ResetToFactoryFirmware,
-        ),
-        _ => CrossfireRead::Refused(Refusal::InvalidPayload),
-    }
+        _ => return Err(Refusal::InvalidPayload),
+    })
 }
 
-pub fn write_to(command: CrossfireCommand, body: &mut [u8]) -> Written
+pub fn write_to(command: CrossfireCommand, body: &mut [u8]) -> Result<usize, Refusal>
     ensures { WritesInOrder crossfire_rows (crossfire_says command) result body.old body.new }
 {
     match command {

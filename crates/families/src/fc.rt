@@ -6,9 +6,9 @@ ghost use Rattle.codec.specs.Told.{WritesInOrder};
 ghost use Rattle.families.specs.Sheets.{fc_rows};
 ghost use Rattle.families.specs.Fc.{fc_says, told_fc};
 
-use codec::reader::{NumberRead, read_byte};
+use codec::reader::read_byte;
 use codec::refusal::Refusal;
-use codec::writer::{SUB_COMMAND_LEN, Written, write_alone};
+use codec::writer::{SUB_COMMAND_LEN, write_alone};
 
 pub const SUB_COMMAND_ID_FC_FORCE_DISARM: u8 = 0x01;
 
@@ -20,27 +20,17 @@ pub enum FcCommand {
     ScaleChannel,
 }
 
-#[derive(Clone, Copy)]
-pub enum FcRead {
-    Got(FcCommand),
-    Refused(Refusal),
-}
-
-pub fn read(body: &[u8]) -> FcRead
+pub fn read(body: &[u8]) -> Result<FcCommand, Refusal>
     ensures { told_fc result ≡ read_body fc_rows body.now }
 {
-    let sub = match read_byte(body, 0) {
-        NumberRead::Got(sub) => sub as u8,
-        NumberRead::Refused(r) => return FcRead::Refused(r),
-    };
-    match sub {
-        SUB_COMMAND_ID_FC_FORCE_DISARM => FcRead::Got(FcCommand::ForceDisarm),
-        SUB_COMMAND_ID_FC_SCALE_CHANNEL => FcRead::Got(FcCommand::ScaleChannel),
-        _ => FcRead::Refused(Refusal::InvalidPayload),
+    match read_byte(body, 0)? {
+        SUB_COMMAND_ID_FC_FORCE_DISARM => Ok(FcCommand::ForceDisarm),
+        SUB_COMMAND_ID_FC_SCALE_CHANNEL => Ok(FcCommand::ScaleChannel),
+        _ => Err(Refusal::InvalidPayload),
     }
 }
 
-pub fn write_to(command: FcCommand, body: &mut [u8]) -> Written
+pub fn write_to(command: FcCommand, body: &mut [u8]) -> Result<usize, Refusal>
     ensures { WritesInOrder fc_rows (fc_says command) result body.old body.new }
 {
     match command {

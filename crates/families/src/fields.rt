@@ -5,67 +5,43 @@ ghost use Rattle.codec.specs.Sheet.{got};
 ghost use Rattle.codec.specs.Refusals.{outcome_number, number_in};
 ghost use Rattle.families.specs.Text.{bytes_in};
 ghost use Rattle.families.specs.Fields.{made_more, made_values, made_texts, construct};
-ghost use Rattle.families.specs.Sizes.{over, stop_selection, stop_sizes, SizesFit, SelectionFits, MoreFits, ValuesFit, more_size, values_size, Puts, PutsHead, PutsMore, PutsValues, PutsPopup};
+ghost use Rattle.families.specs.Sizes.{over, stop_selection, SelectionFits, MoreFits, ValuesFit, more_size, values_size, Puts, PutsHead, PutsMore, PutsValues, PutsPopup};
 
 use crate::screen::{MAX_POPUP_DATA_LEN, ScreenAdditionalData, ScreenPopup, ScreenPopupFields};
 use crate::text::CommandString;
-use codec::refusal::{Outcome, Refusal};
+use codec::refusal::Refusal;
 use codec::writer::{bit_of, put_bytes};
 
 fn more_made(fields: ScreenPopupFields) -> bool
     ensures { result ≡ made_more fields.additional_data fields }
 {
-    let kind = fields.additional_data;
-    match kind {
-        ScreenAdditionalData::Absent => true,
-        ScreenAdditionalData::Empty => true,
-        ScreenAdditionalData::Selection => {
-            let label = fields.selection_text;
-            if !label.made() {
-                return false;
-            }
-            let unit = fields.unit;
-            unit.made()
-        }
+    match fields.additional_data {
+        ScreenAdditionalData::Absent | ScreenAdditionalData::Empty => true,
+        ScreenAdditionalData::Selection => fields.selection_text.made() && fields.unit.made(),
     }
 }
 
 fn values_made(fields: ScreenPopupFields) -> bool
     ensures { result ≡ made_values fields.has_possible_values fields }
 {
-    if !fields.has_possible_values {
-        return true;
-    }
-    let values = fields.possible_values;
-    values.made()
+    !fields.has_possible_values || fields.possible_values.made()
 }
 
 // Every text that is present is made.
 fn texts_made(fields: ScreenPopupFields) -> bool
     ensures { result ≡ made_texts fields }
 {
-    let header = fields.header;
-    if !header.made() {
-        return false;
-    }
-    let info = fields.info;
-    if !info.made() {
-        return false;
-    }
-    if !more_made(fields) {
-        return false;
-    }
-    values_made(fields)
+    fields.header.made() && fields.info.made() && more_made(fields) && values_made(fields)
 }
 
 // 1 unless so many bytes have room.
-fn room(size: usize) -> Outcome
+fn room(size: usize) -> Result<(), Refusal>
     ensures { outcome_number result ≡ over size }
 {
     if MAX_POPUP_DATA_LEN < size {
-        Outcome::Refused(Refusal::InvalidPayloadLength)
+        Err(Refusal::InvalidPayloadLength)
     } else {
-        Outcome::Accepted
+        Ok(())
     }
 }
 
@@ -85,63 +61,46 @@ const SELECTION_LEN: usize = 6;
 const EMPTY_LEN: usize = 1;
 
 // A selection: an empty label stops at its turn, before its own room.
-fn judge_selection(head: usize, label: usize, unit: usize, values: usize) -> Outcome
+fn judge_selection(head: usize, label: usize, unit: usize, values: usize) -> Result<(), Refusal>
     requires { ((head ≤ 106) × (label ≤ 51)) × ((unit ≤ 51) × (values ≤ 52)) }
     ensures { outcome_number result ≡ stop_selection head label unit values }
 {
     if label == 0 {
-        if MAX_POPUP_DATA_LEN < head {
-            return Outcome::Refused(Refusal::InvalidPayloadLength);
-        }
-        return Outcome::Refused(Refusal::InvalidPayload);
+        room(head)?;
+        return Err(Refusal::InvalidPayload);
     }
     room(head + (label + unit + SELECTION_LEN) + values)
 }
 
-// Sizes judged: the bytes of the head; lengths of label, unit and possible values.
-fn judge_sizes(
-    head: usize,
-    kind: ScreenAdditionalData,
-    label: usize,
-    unit: usize,
-    present: bool,
-    values: usize,
-) -> Outcome
-    requires { SizesFit head kind label unit present values }
-    ensures { outcome_number result ≡ stop_sizes head kind label unit present values }
+// What stops construction, if anything does.
+pub(crate) fn judge(fields: ScreenPopupFields) -> Result<(), Refusal>
+    ensures { outcome_number result ≡ number_in (construct fields) }
 {
-    let values = values_size(present, values);
-    match kind {
+    if !texts_made(fields) {
+        return Err(Refusal::RecordNotMade);
+    }
+    let head = fields.header.len + fields.info.len + HEAD_LEN;
+    let present = fields.has_possible_values;
+    let values = values_size(present, fields.possible_values.len);
+    match fields.additional_data {
         ScreenAdditionalData::Absent => {
             if present {
-                return Outcome::Refused(Refusal::InvalidPayload);
+                return Err(Refusal::InvalidPayload);
             }
             room(head)
         }
         ScreenAdditionalData::Empty => room(head + EMPTY_LEN + values),
-        ScreenAdditionalData::Selection => judge_selection(head, label, unit, values),
+        ScreenAdditionalData::Selection => judge_selection(
+            head,
+            fields.selection_text.len,
+            fields.unit.len,
+            values,
+        ),
     }
 }
 
-// What stops construction, if anything does.
-pub(crate) fn judge(fields: ScreenPopupFields) -> Outcome
-    ensures { outcome_number result ≡ number_in (construct fields) }
-{
-    if !texts_made(fields) {
-        return Outcome::Refused(Refusal::RecordNotMade);
-    }
-    let kind = fields.additional_data;
-    judge_sizes(
-        fields.header.len + fields.info.len + HEAD_LEN,
-        kind,
-        fields.selection_text.len,
-        fields.unit.len,
-        fields.has_possible_values,
-        fields.possible_values.len,
-    )
-}
-
-// Puts a text and its 00; the place after it.
+// Puts a text and its 00; the place after it. The place goes from one to the next: a cursor would need these functions' `requires` as its
+// invariant, no plainer.
 fn put_text(out: &mut [u8], at: usize, text: CommandString) -> usize
     requires { (at + text.len < length out.old) × (text.len ≤ 51) }
     ensures { Puts at (bytes_in text ++ 0 ∷ []) (text.len + 1) result out.old out.new }
@@ -175,22 +134,19 @@ fn put_selection(out: &mut [u8], at: usize, fields: ScreenPopupFields) -> usize
     requires { SelectionFits fields × (at + more_size ScreenAdditionalData.Selection fields ≤ length out.old) }
     ensures { PutsMore ScreenAdditionalData.Selection at fields result out.old out.new }
 {
-    let label = fields.selection_text;
-    let value_at = put_text(out, at, label);
+    let value_at = put_text(out, at, fields.selection_text);
     out[value_at] = fields.value;
     out[value_at + 1] = fields.min_value;
     out[value_at + 2] = fields.max_value;
     out[value_at + 3] = fields.default_value;
-    let unit = fields.unit;
-    put_text(out, value_at + 4, unit)
+    put_text(out, value_at + 4, fields.unit)
 }
 
 fn put_more(out: &mut [u8], at: usize, fields: ScreenPopupFields) -> usize
     requires { MoreFits fields × (at + more_size fields.additional_data fields ≤ length out.old) }
     ensures { PutsMore fields.additional_data at fields result out.old out.new }
 {
-    let kind = fields.additional_data;
-    match kind {
+    match fields.additional_data {
         ScreenAdditionalData::Absent => at,
         ScreenAdditionalData::Empty => {
             out[at] = 0;
@@ -207,8 +163,7 @@ fn put_values(out: &mut [u8], at: usize, fields: ScreenPopupFields) -> usize
     if !fields.has_possible_values {
         return at;
     }
-    let values = fields.possible_values;
-    put_text(out, at, values)
+    put_text(out, at, fields.possible_values)
 }
 
 // Puts what nothing stops; how many bytes it is.
@@ -216,12 +171,10 @@ fn put_all(out: &mut [u8], fields: ScreenPopupFields) -> usize
     requires { (number_in (construct fields) ≡ 0) × (length out.old ≡ 55) }
     ensures { PutsPopup fields result out.old out.new }
 {
-    let header = fields.header;
-    let info = fields.info;
     let more_at = put_head(
         out,
-        header,
-        info,
+        fields.header,
+        fields.info,
         fields.max_timeout_interval,
         fields.close_button_option,
     );

@@ -7,9 +7,9 @@ ghost use Rattle.codec.specs.Told.{WritesInOrder};
 ghost use Rattle.families.specs.Sheets.{flow_rows};
 ghost use Rattle.families.specs.FlowControl.{flow_says, told_flow};
 
-use codec::reader::{NumberRead, Width, read_byte, read_word};
+use codec::reader::{Width, read_byte, read_word};
 use codec::refusal::Refusal;
-use codec::writer::{WITH_BYTE_LEN, Written, put_byte, put_number, write_with_byte};
+use codec::writer::{WITH_BYTE_LEN, put_byte, put_number, write_with_byte};
 
 pub const SUB_COMMAND_ID_FLOW_CONTROL_SUBSCRIBE: u8 = 0x01;
 
@@ -26,63 +26,43 @@ pub enum FlowControlCommand {
     },
 }
 
-#[derive(Clone, Copy)]
-pub enum FlowControlRead {
-    Got(FlowControlCommand),
-    Refused(Refusal),
-}
-
 // "01 frame type(1), interval(2)"
-fn read_subscribe(body: &[u8]) -> FlowControlRead
+fn read_subscribe(body: &[u8]) -> Result<FlowControlCommand, Refusal>
     ensures { told_flow result ≡ and_then (read_items (byte ∷ word ∷ []) body.now 1) (λ vs. got (said 0x01 vs)) }
 {
-    let frame_type = match read_byte(body, 1) {
-        NumberRead::Got(frame_type) => frame_type as u8,
-        NumberRead::Refused(r) => return FlowControlRead::Refused(r),
-    };
-    match read_word(body, 2) {
-        NumberRead::Got(interval) => FlowControlRead::Got(FlowControlCommand::Subscribe {
-            frame_type,
-            max_interval_time: interval as u16,
-        }),
-        NumberRead::Refused(r) => FlowControlRead::Refused(r),
-    }
+    Ok(FlowControlCommand::Subscribe {
+        frame_type: read_byte(body, 1)?,
+        max_interval_time: read_word(body, 2)?,
+    })
 }
 
-pub fn read(body: &[u8]) -> FlowControlRead
+pub fn read(body: &[u8]) -> Result<FlowControlCommand, Refusal>
     ensures { told_flow result ≡ read_body flow_rows body.now }
 {
-    let sub = match read_byte(body, 0) {
-        NumberRead::Got(sub) => sub as u8,
-        NumberRead::Refused(r) => return FlowControlRead::Refused(r),
-    };
-    match sub {
+    match read_byte(body, 0)? {
         SUB_COMMAND_ID_FLOW_CONTROL_SUBSCRIBE => read_subscribe(body),
-        SUB_COMMAND_ID_FLOW_CONTROL_UNSUBSCRIBE => match read_byte(body, 1) {
-            NumberRead::Got(frame_type) => FlowControlRead::Got(FlowControlCommand::Unsubscribe {
-                frame_type: frame_type as u8,
-            }),
-            NumberRead::Refused(r) => FlowControlRead::Refused(r),
-        },
-        _ => FlowControlRead::Refused(Refusal::InvalidPayload),
+        SUB_COMMAND_ID_FLOW_CONTROL_UNSUBSCRIBE => Ok(FlowControlCommand::Unsubscribe {
+            frame_type: read_byte(body, 1)?,
+        }),
+        _ => Err(Refusal::InvalidPayload),
     }
 }
 
 const SUBSCRIBE_LEN: usize = 4;
 
-fn write_subscribe(frame: u8, interval: u16, body: &mut [u8]) -> Written
+fn write_subscribe(frame: u8, interval: u16, body: &mut [u8]) -> Result<usize, Refusal>
     ensures { WritesInOrder flow_rows (said 0x01 ((frame ∷ []) ∷ (interval ∷ []) ∷ [])) result body.old body.new }
 {
     if body.len() < SUBSCRIBE_LEN {
-        return Written::Refused(Refusal::BufferOverflow);
+        return Err(Refusal::BufferOverflow);
     }
     put_byte(body, 0, SUB_COMMAND_ID_FLOW_CONTROL_SUBSCRIBE);
     put_byte(body, 1, frame);
     put_number(body, 2, Width::Two, interval as u32);
-    Written::Count(SUBSCRIBE_LEN)
+    Ok(SUBSCRIBE_LEN)
 }
 
-pub fn write_to(command: FlowControlCommand, body: &mut [u8]) -> Written
+pub fn write_to(command: FlowControlCommand, body: &mut [u8]) -> Result<usize, Refusal>
     ensures { WritesInOrder flow_rows (flow_says command) result body.old body.new }
 {
     match command {

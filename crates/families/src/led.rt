@@ -1,30 +1,23 @@
 // 0x09 LED.
 ghost use Rattle.std.specs.Prelude.{◌≡◌, ◌∷◌, [], ◌+◌, ◌≤◌, length};
 ghost use Rattle.std.proofs.lemmas.List.Edits.{sets};
-ghost use Rattle.codec.specs.Sheet.{said, got, and_then, word, first};
+ghost use Rattle.codec.specs.Sheet.{said, got, and_then, word};
 ghost use Rattle.codec.specs.Digits.{join, split};
 ghost use Rattle.codec.specs.Reading.{read_items, read_body};
 ghost use Rattle.codec.specs.Writing.{ok_item, items_of, counted, write_body};
-ghost use Rattle.codec.specs.Told.{WritesInOrder, told_number, told_written, at_most};
-ghost use Rattle.codec.specs.Taking.{in_turn, read_behind};
+ghost use Rattle.codec.specs.Told.{WritesInOrder, told_written};
 ghost use Rattle.families.specs.Sheets.{led_rows, colour};
-ghost use Rattle.families.specs.Led.{color_says, told_color, led_says, told_led, color_told, told_fade, fade_says, stop_first, timed_bytes};
+ghost use Rattle.families.specs.Led.{color_says, led_says, told_led, TakesColor, told_fade, fade_says, stop_first, timed_bytes};
 
-use codec::reader::{NumberRead, Reader, Width};
+use codec::reader::{Reader, Width};
 use codec::refusal::Refusal;
-use codec::writer::{SUB_COMMAND_LEN, Written, put_byte, put_number, values_first, write_alone};
+use codec::writer::{SUB_COMMAND_LEN, put_byte, put_number, values_first, write_alone};
 
 #[derive(Clone, Copy)]
 pub struct LedColor {
     pub hue: u16,
     pub saturation: u8,
     pub value: u8,
-}
-
-#[derive(Clone, Copy)]
-pub enum ColorRead {
-    Got(LedColor),
-    Refused(Refusal),
 }
 
 #[derive(Clone, Copy)]
@@ -47,24 +40,12 @@ pub enum LedCommand {
     },
 }
 
-#[derive(Clone, Copy)]
-pub enum LedRead {
-    Got(LedCommand),
-    Refused(Refusal),
-}
-
 // What a pulse and a blink hold.
 #[derive(Clone, Copy)]
 pub(crate) struct Fade {
     pub(crate) time: u16,
     pub(crate) start: LedColor,
     pub(crate) stop: LedColor,
-}
-
-#[derive(Clone, Copy)]
-pub(crate) enum FadeRead {
-    Got(Fade),
-    Refused(Refusal),
 }
 
 pub const SUB_COMMAND_ID_LED_SET_DEFAULT: u8 = 0x01;
@@ -110,153 +91,82 @@ fn unpacked(n: u32) -> LedColor
 }
 
 // "A colour is one item": its three bytes are there before it is judged.
-fn color_of(bytes: NumberRead) -> ColorRead
-    ensures { told_color result ≡ color_told bytes }
+fn take_color(input: &mut Reader) -> Result<LedColor, Refusal>
+    ensures { TakesColor result input.old.remaining.now input.new.remaining.now }
 {
-    match bytes {
-        NumberRead::Got(n) => {
-            let color = unpacked(n);
-            if valid(color) {
-                ColorRead::Got(color)
-            } else {
-                ColorRead::Refused(Refusal::InvalidPayload)
-            }
-        }
-        NumberRead::Refused(r) => ColorRead::Refused(r),
-    }
-}
-
-fn color(bytes: NumberRead) -> LedRead
-    ensures { told_led result ≡ and_then (in_turn (color_told bytes ∷ [])) (λ vs. got (said 0x02 vs)) }
-{
-    match color_of(bytes) {
-        ColorRead::Got(color) => LedRead::Got(LedCommand::OverrideColor(color)),
-        ColorRead::Refused(r) => LedRead::Refused(r),
+    let color = unpacked(input.u24()?);
+    if valid(color) {
+        Ok(color)
+    } else {
+        Err(Refusal::InvalidPayload)
     }
 }
 
 // "02 colour", behind the sub-command.
-fn read_color(rest: &[u8]) -> LedRead
+fn read_color(rest: &[u8]) -> Result<LedCommand, Refusal>
     ensures { told_led result ≡ and_then (read_items (colour ∷ []) rest.now 0) (λ vs. got (said 0x02 vs)) }
 {
     let mut input = Reader::new(rest);
-    let bytes = input.u24();
-    color(bytes)
-}
-
-fn fade_of(time: NumberRead, start: NumberRead, stop: NumberRead) -> FadeRead
-    requires { at_most 65535 time }
-    ensures { told_fade result ≡ in_turn (told_number time ∷ color_told start ∷ color_told stop ∷ []) }
-{
-    let time = match time {
-        NumberRead::Got(time) => time as u16,
-        NumberRead::Refused(r) => return FadeRead::Refused(r),
-    };
-    let start = match color_of(start) {
-        ColorRead::Got(color) => color,
-        ColorRead::Refused(r) => return FadeRead::Refused(r),
-    };
-    match color_of(stop) {
-        ColorRead::Got(stop) => FadeRead::Got(Fade { time, start, stop }),
-        ColorRead::Refused(r) => FadeRead::Refused(r),
-    }
+    Ok(LedCommand::OverrideColor(take_color(&mut input)?))
 }
 
 // "03 time(2), start, stop; 04 the same", behind the sub-command.
-fn read_fade(rest: &[u8]) -> FadeRead
+fn read_fade(rest: &[u8]) -> Result<Fade, Refusal>
     ensures { told_fade result ≡ read_items (word ∷ colour ∷ colour ∷ []) rest.now 0 }
 {
     let mut input = Reader::new(rest);
-    let time = input.u16();
-    let start = input.u24();
-    let stop = input.u24();
-    fade_of(time, start, stop)
-}
-
-fn shift(interval: NumberRead, bytes: NumberRead) -> LedRead
-    requires { at_most 65535 interval }
-    ensures { told_led result ≡ and_then (in_turn (told_number interval ∷ color_told bytes ∷ [])) (λ vs. got (said 0x05 vs)) }
-{
-    match interval {
-        NumberRead::Got(interval) => match color_of(bytes) {
-            ColorRead::Got(color) => LedRead::Got(LedCommand::OverrideShift {
-                interval_ms: interval as u16,
-                color,
-            }),
-            ColorRead::Refused(r) => LedRead::Refused(r),
-        },
-        NumberRead::Refused(r) => LedRead::Refused(r),
-    }
+    let time = input.u16()?;
+    let start = take_color(&mut input)?;
+    let stop = take_color(&mut input)?;
+    Ok(Fade { time, start, stop })
 }
 
 // "05 time(2), colour", behind the sub-command.
-fn read_shift(rest: &[u8]) -> LedRead
+fn read_shift(rest: &[u8]) -> Result<LedCommand, Refusal>
     ensures { told_led result ≡ and_then (read_items (word ∷ colour ∷ []) rest.now 0) (λ vs. got (said 0x05 vs)) }
 {
     let mut input = Reader::new(rest);
-    let interval = input.u16();
-    let bytes = input.u24();
-    shift(interval, bytes)
+    Ok(LedCommand::OverrideShift {
+        interval_ms: input.u16()?,
+        color: take_color(&mut input)?,
+    })
 }
 
-fn pulse_of(f: FadeRead) -> LedRead
-    ensures { told_led result ≡ and_then (told_fade f) (λ vs. got (said 0x03 vs)) }
+// A pulse and a blink differ in their case alone: a closure that gives it is no plainer.
+fn read_pulse(rest: &[u8]) -> Result<LedCommand, Refusal>
+    ensures { told_led result ≡ and_then (read_items (word ∷ colour ∷ colour ∷ []) rest.now 0) (λ vs. got (said 0x03 vs)) }
 {
-    match f {
-        FadeRead::Got(f) => {
-            let start = f.start;
-            let stop = f.stop;
-            LedRead::Got(LedCommand::OverridePulse {
-                duration_ms: f.time,
-                start,
-                stop,
-            })
-        }
-        FadeRead::Refused(r) => LedRead::Refused(r),
-    }
+    let Fade { time, start, stop } = read_fade(rest)?;
+    Ok(LedCommand::OverridePulse {
+        duration_ms: time,
+        start,
+        stop,
+    })
 }
 
-fn blink_of(f: FadeRead) -> LedRead
-    ensures { told_led result ≡ and_then (told_fade f) (λ vs. got (said 0x04 vs)) }
+fn read_blink(rest: &[u8]) -> Result<LedCommand, Refusal>
+    ensures { told_led result ≡ and_then (read_items (word ∷ colour ∷ colour ∷ []) rest.now 0) (λ vs. got (said 0x04 vs)) }
 {
-    match f {
-        FadeRead::Got(f) => {
-            let start = f.start;
-            let stop = f.stop;
-            LedRead::Got(LedCommand::OverrideBlink {
-                interval_ms: f.time,
-                start,
-                stop,
-            })
-        }
-        FadeRead::Refused(r) => LedRead::Refused(r),
-    }
+    let Fade { time, start, stop } = read_fade(rest)?;
+    Ok(LedCommand::OverrideBlink {
+        interval_ms: time,
+        start,
+        stop,
+    })
 }
 
-// The sub-command is judged before the items behind it are taken.
-fn read_behind(sub: NumberRead, rest: &[u8]) -> LedRead
-    requires { at_most 255 sub }
-    ensures { told_led result ≡ and_then (told_number sub) (λ v. read_behind led_rows rest.now (first v)) }
-{
-    match sub {
-        NumberRead::Got(sub) => match sub as u8 {
-            SUB_COMMAND_ID_LED_SET_DEFAULT => LedRead::Got(LedCommand::SetDefault),
-            SUB_COMMAND_ID_LED_OVERRIDE_COLOR => read_color(rest),
-            SUB_COMMAND_ID_LED_OVERRIDE_PULSE => pulse_of(read_fade(rest)),
-            SUB_COMMAND_ID_LED_OVERRIDE_BLINK => blink_of(read_fade(rest)),
-            SUB_COMMAND_ID_LED_OVERRIDE_SHIFT => read_shift(rest),
-            _ => LedRead::Refused(Refusal::InvalidPayload),
-        },
-        NumberRead::Refused(r) => LedRead::Refused(r),
-    }
-}
-
-pub fn read(body: &[u8]) -> LedRead
+pub fn read(body: &[u8]) -> Result<LedCommand, Refusal>
     ensures { told_led result ≡ read_body led_rows body.now }
 {
     let mut input = Reader::new(body);
-    let sub = input.byte();
-    read_behind(sub, input.remaining)
+    match input.byte()? {
+        SUB_COMMAND_ID_LED_SET_DEFAULT => Ok(LedCommand::SetDefault),
+        SUB_COMMAND_ID_LED_OVERRIDE_COLOR => read_color(input.remaining),
+        SUB_COMMAND_ID_LED_OVERRIDE_PULSE => read_pulse(input.remaining),
+        SUB_COMMAND_ID_LED_OVERRIDE_BLINK => read_blink(input.remaining),
+        SUB_COMMAND_ID_LED_OVERRIDE_SHIFT => read_shift(input.remaining),
+        _ => Err(Refusal::InvalidPayload),
+    }
 }
 
 fn packed(color: LedColor) -> u32
@@ -277,27 +187,23 @@ const TIMED_COLOR_LEN: usize = 6;
 const TIMED_COLORS_LEN: usize = 9;
 
 // "sub-command and time need room; each colour is judged (2), then needs room": those `before` the first colour, and that colour.
-fn judge_first(color: LedColor, before: usize, room: usize) -> Written
+fn judge_first(color: LedColor, before: usize, room: usize) -> Result<usize, Refusal>
     requires { before ≤ 3 }
     ensures { told_written result ≡ counted (stop_first before room (color_says color)) (before + 3) }
 {
     if room < before {
-        return Written::Refused(Refusal::BufferOverflow);
+        return Err(Refusal::BufferOverflow);
     }
     values_first(valid(color), room, before + COLOR_LEN)
 }
 
-fn write_color(color: LedColor, body: &mut [u8]) -> Written
+fn write_color(color: LedColor, body: &mut [u8]) -> Result<usize, Refusal>
     ensures { WritesInOrder led_rows (said 0x02 (color_says color ∷ [])) result body.old body.new }
 {
-    match judge_first(color, SUB_COMMAND_LEN, body.len()) {
-        Written::Count(n) => {
-            put_byte(body, 0, SUB_COMMAND_ID_LED_OVERRIDE_COLOR);
-            put_number(body, SUB_COMMAND_LEN, Width::Three, packed(color));
-            Written::Count(n)
-        }
-        Written::Refused(r) => Written::Refused(r),
-    }
+    let n = judge_first(color, SUB_COMMAND_LEN, body.len())?;
+    put_byte(body, 0, SUB_COMMAND_ID_LED_OVERRIDE_COLOR);
+    put_number(body, SUB_COMMAND_LEN, Width::Three, packed(color));
+    Ok(n)
 }
 
 // Sub-command, time and first colour, into a body that has room for them.
@@ -311,38 +217,33 @@ fn put_timed(sub: u8, time: u16, color: LedColor, body: &mut [u8])
 }
 
 // A pulse or a blink, by its sub-command.
-fn write_fade(sub: u8, time: u16, start: LedColor, stop: LedColor, body: &mut [u8]) -> Written
+fn write_fade(
+    sub: u8,
+    time: u16,
+    start: LedColor,
+    stop: LedColor,
+    body: &mut [u8],
+) -> Result<usize, Refusal>
     requires { items_of led_rows sub ≡ word ∷ colour ∷ colour ∷ [] }
     ensures { WritesInOrder led_rows (fade_says sub time start stop) result body.old body.new }
 {
-    match judge_first(start, TIMED_LEN, body.len()) {
-        Written::Count(_) => (),
-        Written::Refused(r) => return Written::Refused(r),
-    }
-    match values_first(valid(stop), body.len(), TIMED_COLORS_LEN) {
-        Written::Count(n) => {
-            put_timed(sub, time, start, body);
-            put_number(body, TIMED_COLOR_LEN, Width::Three, packed(stop));
-            Written::Count(n)
-        }
-        Written::Refused(r) => Written::Refused(r),
-    }
+    judge_first(start, TIMED_LEN, body.len())?;
+    let n = values_first(valid(stop), body.len(), TIMED_COLORS_LEN)?;
+    put_timed(sub, time, start, body);
+    put_number(body, TIMED_COLOR_LEN, Width::Three, packed(stop));
+    Ok(n)
 }
 
-fn write_shift(time: u16, color: LedColor, body: &mut [u8]) -> Written
+fn write_shift(time: u16, color: LedColor, body: &mut [u8]) -> Result<usize, Refusal>
     ensures { WritesInOrder led_rows (said 0x05 ((time ∷ []) ∷ color_says color ∷ [])) result body.old body.new }
 {
-    match judge_first(color, TIMED_LEN, body.len()) {
-        Written::Count(n) => {
-            put_timed(SUB_COMMAND_ID_LED_OVERRIDE_SHIFT, time, color, body);
-            Written::Count(n)
-        }
-        Written::Refused(r) => Written::Refused(r),
-    }
+    let n = judge_first(color, TIMED_LEN, body.len())?;
+    put_timed(SUB_COMMAND_ID_LED_OVERRIDE_SHIFT, time, color, body);
+    Ok(n)
 }
 
 // Item by item: sub-command and time need room; each colour is judged (2), then needs room (3).
-pub fn write_to(command: LedCommand, body: &mut [u8]) -> Written
+pub fn write_to(command: LedCommand, body: &mut [u8]) -> Result<usize, Refusal>
     ensures { WritesInOrder led_rows (led_says command) result body.old body.new }
 {
     match command {

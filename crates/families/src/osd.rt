@@ -6,9 +6,9 @@ ghost use Rattle.codec.specs.Told.{WritesInOrder};
 ghost use Rattle.families.specs.Sheets.{osd_rows};
 ghost use Rattle.families.specs.Osd.{osd_says, told_osd};
 
-use codec::reader::{NumberRead, read_byte};
+use codec::reader::read_byte;
 use codec::refusal::Refusal;
-use codec::writer::{WITH_BYTE_LEN, Written, write_with_byte};
+use codec::writer::{WITH_BYTE_LEN, write_with_byte};
 
 pub const SUB_COMMAND_ID_OSD_SEND_BUTTONS: u8 = 0x01;
 
@@ -18,31 +18,18 @@ pub struct OsdCommand {
     pub buttons: u8,
 }
 
-#[derive(Clone, Copy)]
-pub enum OsdRead {
-    Got(OsdCommand),
-    Refused(Refusal),
-}
-
-pub fn read(body: &[u8]) -> OsdRead
+pub fn read(body: &[u8]) -> Result<OsdCommand, Refusal>
     ensures { told_osd result ≡ read_body osd_rows body.now }
 {
-    let sub = match read_byte(body, 0) {
-        NumberRead::Got(sub) => sub as u8,
-        NumberRead::Refused(r) => return OsdRead::Refused(r),
-    };
-    match sub {
-        SUB_COMMAND_ID_OSD_SEND_BUTTONS => match read_byte(body, 1) {
-            NumberRead::Got(buttons) => OsdRead::Got(OsdCommand {
-                buttons: buttons as u8,
-            }),
-            NumberRead::Refused(r) => OsdRead::Refused(r),
-        },
-        _ => OsdRead::Refused(Refusal::InvalidPayload),
+    match read_byte(body, 0)? {
+        SUB_COMMAND_ID_OSD_SEND_BUTTONS => Ok(OsdCommand {
+            buttons: read_byte(body, 1)?,
+        }),
+        _ => Err(Refusal::InvalidPayload),
     }
 }
 
-pub fn write_to(command: OsdCommand, body: &mut [u8]) -> Written
+pub fn write_to(command: OsdCommand, body: &mut [u8]) -> Result<usize, Refusal>
     ensures { WritesInOrder osd_rows (osd_says command) result body.old body.new }
 {
     write_with_byte(SUB_COMMAND_ID_OSD_SEND_BUTTONS, command.buttons, body)

@@ -12,6 +12,7 @@ use crate::osd::OsdCommand;
 use crate::screen::ScreenCommand;
 use crate::vtx::VtxCommand;
 
+// The Rust's names. An enum of these ids, or of a family's sub-commands, would say the cases of its commands a second time.
 pub const COMMAND_ID_FC: u8 = 0x01;
 
 pub const COMMAND_ID_BLUETOOTH: u8 = 0x03;

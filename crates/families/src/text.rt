@@ -1,37 +1,22 @@
 // Texts, and stored bytes: a fixed array with a length in place of the Rust's Vec.
 ghost use Rattle.std.specs.Prelude.{◌≡◌, ◌≤◌, ◌+◌, length, take, drop};
 ghost use Rattle.codec.specs.Writing.{nonzero};
-ghost use Rattle.codec.specs.Refusals.{refusal_number};
-ghost use Rattle.codec.specs.Sheet.{refused};
 ghost use Rattle.families.specs.Text.{zeros, made_bytes, made_text, padded, text_of, new_text, TextIs};
 
-use crate::screen::MAX_POPUP_DATA_LEN;
 use codec::reader::MAX_COMMAND_STRING_LEN;
-use codec::refusal::{Outcome, Refusal};
+use codec::refusal::Refusal;
 
+// Length and bytes stand side by side: no heap.
 #[derive(Clone, Copy)]
 pub struct CommandString {
     pub len: usize,
     pub bytes: [u8; MAX_COMMAND_STRING_LEN],
 }
 
-#[derive(Clone, Copy)]
-pub struct TextAnswer {
-    pub outcome: Outcome,
-    pub text: CommandString,
-}
-
 pub(crate) fn all_nonzero(s: &[u8]) -> bool
     ensures { result ≡ nonzero s.now }
 {
-    let mut i = 0;
-    while i < s.len() {
-        if s[i] == 0 {
-            return false;
-        }
-        i += 1;
-    }
-    true
+    s.iter().all(|byte| *byte != 0)
 }
 
 // No way out before the end, so that the compiler takes many bytes at a time.
@@ -39,10 +24,8 @@ pub fn all_zero(s: &[u8]) -> bool
     ensures { result ≡ zeros s.now }
 {
     let mut seen: u8 = 0;
-    let mut i = 0;
-    while i < s.len() {
-        seen = seen | s[i];
-        i += 1;
+    for byte in s {
+        seen |= *byte;
     }
     seen == 0
 }
@@ -70,57 +53,40 @@ pub fn made_bytes(bytes: &[u8], len: usize, most: usize) -> bool
     false
 }
 
-// The n bytes from a place on, and zeros.
-pub(crate) fn stored(s: &[u8], at: usize, n: usize) -> [u8; MAX_POPUP_DATA_LEN]
-    requires { (at + n ≤ length s.now) × (n ≤ 55) }
-    ensures { result ≡ padded 55 (take n (drop at s.now)) }
+// The bytes, and zeros behind them.
+pub(crate) fn padded<const N: usize>(bytes: &[u8]) -> [u8; N]
+    requires { length bytes.now ≤ N }
+    ensures { result ≡ padded N bytes.now }
 {
-    let mut out = [0u8; MAX_POPUP_DATA_LEN];
-    let end = at + n;
-    out[..n].copy_from_slice(&s[at..end]);
+    let mut out = [0u8; N];
+    let n = bytes.len();
+    out[..n].copy_from_slice(bytes);
     out
 }
 
-// The text of the n bytes from a place on.
-pub(crate) fn text_at(s: &[u8], at: usize, n: usize) -> CommandString
-    requires { (at + n ≤ length s.now) × (n ≤ 51) }
-    ensures { result ≡ text_of (take n (drop at s.now)) }
-{
-    let mut out = [0u8; MAX_COMMAND_STRING_LEN];
-    let end = at + n;
-    out[..n].copy_from_slice(&s[at..end]);
-    CommandString { len: n, bytes: out }
-}
-
-// "With each number come the same blank record"
-fn refused_with(why: Refusal) -> TextAnswer
-    ensures { TextIs (refused (refusal_number why) 0) result }
-{
-    TextAnswer {
-        outcome: Outcome::Refused(why),
-        text: CommandString {
-            len: 0,
-            bytes: [0u8; MAX_COMMAND_STRING_LEN],
-        },
-    }
-}
-
 impl CommandString {
+    // The text of these bytes.
+    pub(crate) fn of(bytes: &[u8]) -> CommandString
+        requires { length bytes.now ≤ 51 }
+        ensures { result ≡ text_of bytes.now }
+    {
+        CommandString {
+            len: bytes.len(),
+            bytes: padded(bytes),
+        }
+    }
+
     // "a zero byte 2, then over 51 bytes 1"
-    pub fn new(bytes: &[u8]) -> TextAnswer
+    pub fn new(bytes: &[u8]) -> Result<CommandString, Refusal>
         ensures { TextIs (new_text bytes.now) result }
     {
-        if all_nonzero(bytes) {
-            if MAX_COMMAND_STRING_LEN < bytes.len() {
-                return refused_with(Refusal::InvalidPayloadLength);
-            }
-            let text = text_at(bytes, 0, bytes.len());
-            return TextAnswer {
-                outcome: Outcome::Accepted,
-                text,
-            };
+        if !all_nonzero(bytes) {
+            return Err(Refusal::InvalidPayload);
         }
-        refused_with(Refusal::InvalidPayload)
+        if MAX_COMMAND_STRING_LEN < bytes.len() {
+            return Err(Refusal::InvalidPayloadLength);
+        }
+        Ok(CommandString::of(bytes))
     }
 
     pub(crate) fn made(self) -> bool

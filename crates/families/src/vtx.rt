@@ -1,17 +1,17 @@
 // 0x08 VTX.
-ghost use Rattle.std.specs.Prelude.{Bool, ◌≡◌, ◌≤◌, length, ◌∷◌, []};
+ghost use Rattle.std.specs.Prelude.{Bool, ◌≡◌, ◌≤◌, length, drop, ◌∷◌, []};
 ghost use Rattle.codec.specs.Sheet.{said};
 ghost use Rattle.codec.specs.Digits.{join, split};
-ghost use Rattle.codec.specs.Reading.{read_body};
+ghost use Rattle.codec.specs.Reading.{read_item, read_body};
 ghost use Rattle.codec.specs.Writing.{ok_item, write_body};
-ghost use Rattle.codec.specs.Told.{WritesValuesFirst, bit};
+ghost use Rattle.codec.specs.Told.{WritesValuesFirst, bit, told_number};
 ghost use Rattle.families.specs.Sheets.{vtx_rows, frequency, pit};
 ghost use Rattle.families.specs.Vtx.{vtx_says, told_vtx};
 
-use codec::reader::{NumberRead, Width, read_byte, read_number};
+use codec::reader::{Width, read_byte, read_number};
 use codec::refusal::Refusal;
 use codec::writer::{
-    SUB_COMMAND_LEN, WITH_BYTE_LEN, Written, put_byte, put_number, values_first, write_alone,
+    SUB_COMMAND_LEN, WITH_BYTE_LEN, put_byte, put_number, values_first, write_alone,
     write_with_byte,
 };
 
@@ -38,12 +38,6 @@ pub enum VtxCommand {
     SetPower(u8),
 }
 
-#[derive(Clone, Copy)]
-pub enum VtxRead {
-    Got(VtxCommand),
-    Refused(Refusal),
-}
-
 const LOWEST_FREQUENCY: u32 = 5000;
 
 const HIGHEST_FREQUENCY: u32 = 6000;
@@ -59,47 +53,33 @@ fn enable_pit(mode: bool, control: u8, switch: u8) -> VtxCommand
 }
 
 // Bit 7 is ignored.
-fn unpacked(byte: u32) -> VtxCommand
+fn unpacked(byte: u8) -> VtxCommand
     ensures { vtx_says result ≡ said 0x04 (split (4 ∷ 2 ∷ 1 ∷ []) byte ∷ []) }
 {
     let mode = byte % 2 == 1;
-    let control = (byte / 2 % 4) as u8;
-    let switch = (byte / 8 % 16) as u8;
+    let control = byte / 2 % 4;
+    let switch = byte / 8 % 16;
     enable_pit(mode, control, switch)
 }
 
-pub fn read(body: &[u8]) -> VtxRead
+fn read_frequency(body: &[u8]) -> Result<u16, Refusal>
+    ensures { told_number result ≡ read_item frequency (drop 1 body.now) }
+{
+    Ok(read_number(body, 1, Width::Two, LOWEST_FREQUENCY, HIGHEST_FREQUENCY)? as u16)
+}
+
+pub fn read(body: &[u8]) -> Result<VtxCommand, Refusal>
     ensures { told_vtx result ≡ read_body vtx_rows body.now }
 {
-    let sub = match read_byte(body, 0) {
-        NumberRead::Got(sub) => sub as u8,
-        NumberRead::Refused(r) => return VtxRead::Refused(r),
-    };
-    match sub {
-        SUB_COMMAND_ID_VTX_SET_FREQUENCY => match read_number(
-            body,
-            1,
-            Width::Two,
-            LOWEST_FREQUENCY,
-            HIGHEST_FREQUENCY,
-        ) {
-            NumberRead::Got(megahertz) => VtxRead::Got(VtxCommand::SetFrequency(megahertz as u16)),
-            NumberRead::Refused(r) => VtxRead::Refused(r),
-        },
-        SUB_COMMAND_ID_VTX_ENABLE_PIT_MODE_ON_POWER_UP => match read_byte(body, 1) {
-            NumberRead::Got(byte) => VtxRead::Got(unpacked(byte)),
-            NumberRead::Refused(r) => VtxRead::Refused(r),
-        },
-        SUB_COMMAND_ID_VTX_POWER_UP_FROM_PIT_MODE => VtxRead::Got(VtxCommand::PowerUpFromPitMode),
-        SUB_COMMAND_ID_VTX_SET_DYNAMIC_POWER => match read_byte(body, 1) {
-            NumberRead::Got(power) => VtxRead::Got(VtxCommand::SetDynamicPower(power as u8)),
-            NumberRead::Refused(r) => VtxRead::Refused(r),
-        },
-        SUB_COMMAND_ID_VTX_SET_POWER => match read_byte(body, 1) {
-            NumberRead::Got(power) => VtxRead::Got(VtxCommand::SetPower(power as u8)),
-            NumberRead::Refused(r) => VtxRead::Refused(r),
-        },
-        _ => VtxRead::Refused(Refusal::InvalidPayload),
+    match read_byte(body, 0)? {
+        SUB_COMMAND_ID_VTX_SET_FREQUENCY => Ok(VtxCommand::SetFrequency(read_frequency(body)?)),
+        SUB_COMMAND_ID_VTX_ENABLE_PIT_MODE_ON_POWER_UP => Ok(unpacked(read_byte(body, 1)?)),
+        SUB_COMMAND_ID_VTX_POWER_UP_FROM_PIT_MODE => Ok(VtxCommand::PowerUpFromPitMode),
+        SUB_COMMAND_ID_VTX_SET_DYNAMIC_POWER => Ok(VtxCommand::SetDynamicPower(read_byte(
+            body, 1,
+        )?)),
+        SUB_COMMAND_ID_VTX_SET_POWER => Ok(VtxCommand::SetPower(read_byte(body, 1)?)),
+        _ => Err(Refusal::InvalidPayload),
     }
 }
 
@@ -118,18 +98,14 @@ fn in_band(f: u32) -> bool
 // A frequency's body; that of a pit byte is `WITH_BYTE_LEN`.
 const SET_FREQUENCY_LEN: usize = 3;
 
-fn write_frequency(f: u16, body: &mut [u8]) -> Written
+fn write_frequency(f: u16, body: &mut [u8]) -> Result<usize, Refusal>
     ensures { WritesValuesFirst vtx_rows (said 0x02 ((f ∷ []) ∷ [])) result body.old body.new }
 {
     let ok = in_band(f as u32);
-    match values_first(ok, body.len(), SET_FREQUENCY_LEN) {
-        Written::Count(n) => {
-            put_byte(body, 0, SUB_COMMAND_ID_VTX_SET_FREQUENCY);
-            put_number(body, 1, Width::Two, f as u32);
-            Written::Count(n)
-        }
-        Written::Refused(r) => Written::Refused(r),
-    }
+    let n = values_first(ok, body.len(), SET_FREQUENCY_LEN)?;
+    put_byte(body, 0, SUB_COMMAND_ID_VTX_SET_FREQUENCY);
+    put_number(body, 1, Width::Two, f as u32);
+    Ok(n)
 }
 
 // Whether control and switch have room in their bits; the mode always has.
@@ -155,22 +131,18 @@ fn packed(mode: bool, control: u8, switch: u8) -> u32
     }
 }
 
-fn write_pit(mode: bool, control: u8, switch: u8, body: &mut [u8]) -> Written
+fn write_pit(mode: bool, control: u8, switch: u8, body: &mut [u8]) -> Result<usize, Refusal>
     ensures { WritesValuesFirst vtx_rows (said 0x04 ((switch ∷ control ∷ bit mode ∷ []) ∷ [])) result body.old body.new }
 {
     let ok = in_bits(control, switch);
-    match values_first(ok, body.len(), WITH_BYTE_LEN) {
-        Written::Count(n) => {
-            let byte = packed(mode, control, switch);
-            put_byte(body, 0, SUB_COMMAND_ID_VTX_ENABLE_PIT_MODE_ON_POWER_UP);
-            put_number(body, 1, Width::One, byte);
-            Written::Count(n)
-        }
-        Written::Refused(r) => Written::Refused(r),
-    }
+    let n = values_first(ok, body.len(), WITH_BYTE_LEN)?;
+    let byte = packed(mode, control, switch);
+    put_byte(body, 0, SUB_COMMAND_ID_VTX_ENABLE_PIT_MODE_ON_POWER_UP);
+    put_number(body, 1, Width::One, byte);
+    Ok(n)
 }
 
-pub fn write_to(command: VtxCommand, body: &mut [u8]) -> Written
+pub fn write_to(command: VtxCommand, body: &mut [u8]) -> Result<usize, Refusal>
     ensures { WritesValuesFirst vtx_rows (vtx_says command) result body.old body.new }
 {
     match command {

@@ -4,24 +4,31 @@ use mathlib.Core.Bool.{Bool, true, false}
 use mathlib.Core.List.{List, [], ◌∷◌, ◌++◌, append-nil}
 use mathlib.Core.Path.{◌≡◌, refl, ap, sym, ◌∙◌}
 use native.Mathlib.Omega.{arith}
-use lib.ListN.{length, take, drop, get_or, length-drop, drop_of_length-le, take-append-drop}
-use lib.Seq.{get_or-append-add, drop-append-add, take_at, take_all, drop-cons, drop-drop, length-take-le}
+use native.Mathlib.Nat.{add-sub_cancel_left}
+use lib.ListN.{length, take, drop, get_or, replicate, drop_of_length-le, take-append-drop, length-drop}
+use lib.Seq.{length-take-le, get_or-append-add, drop-append-add, take_at, take_all, drop-cons, drop-drop}
 use lib.Dec.{leb, eqb}
 use borrow.Author.Tests.{eq-eqb, ne_eqb, eqb-true, leb-true}
 use Rattle.codec.specs.Pick.{pick}
-use Rattle.codec.specs.Sheet.{got, refused}
+use Rattle.std.specs.declared.result.Result.TheVariants.{Ok, Err}
+use Rattle.codec.specs.Sheet.{Answer, got, refused}
 use Rattle.codec.specs.Told.{bit}
-use Rattle.codec.specs.declared.refusal.Outcome.TheVariants.{Accepted}
+use Rattle.codec.specs.declared.refusal.Refusal.{Refusal}
 use Rattle.codec.proofs.Back.{both}
+use Rattle.codec.specs.declared.refusal.Refusal.TheVariants.{RecordNotMade}
 use Rattle.families.specs.Fields.{FieldsIs}
 use Rattle.families.specs.Sizes.{Sized}
+use Rattle.families.specs.Text.{padded}
 use Rattle.families.proofs.ScreenLaws.{bit_is}
+use Rattle.families.proofs.Stored.{drop-zeros}
 use Rattle.families.specs.declared.text.CommandString.{CommandString}
 use Rattle.families.specs.declared.screen.ScreenAdditionalData.{ScreenAdditionalData}
 use Rattle.families.specs.declared.screen.ScreenAdditionalData.TheVariants.{Absent, Empty, Selection}
 use Rattle.families.specs.declared.screen.ScreenPopupFields.{ScreenPopupFields}
 use Rattle.images.specs.Text.{text_image}
-use Rattle.images.specs.Fields.{kind_byte, fields_image, text_at, kind_at, known, known_at, fields_at, fields_from}
+use Rattle.images.specs.Fields.{kind_byte, fields_image, text_at, kind_at, kind_of, known, known_at, fields_at, fields_from}
+use Rattle.images.specs.Number.{flag_of}
+use Rattle.images.proofs.NumberLaws.{read-ok, read-not}
 use Rattle.images.proofs.TextLaws.{text-size, byte_mod}
 use Rattle.images.proofs.FieldsPut.{head_bytes, fields-size}
 
@@ -239,35 +246,68 @@ fields_forth s f b = by (eqb (length s) 268) (known_at s) refl refl
     by true false e k h = let z : ◌≡◌ {A = ℕ} 0 1 = cc in absurd (omega arith)
     by false u e k h = let z : ◌≡◌ {A = ℕ} 0 1 = cc in absurd (omega arith)
 
--- ---- what the functions answer
-pub text_copied : (s : List ℕ) (at : ℕ) (b : List ℕ) → at + 52 ≤ length s
-    → b ≡ take (at + 52 - (at + 1)) (drop (at + 1) s) → record { len = get_or s at 0; bytes = b } ≡ text_at s at
-text_copied s at b h e =
+-- ---- a part that is copied over zeros
+pub copied : (s : List ℕ) (at n m : ℕ) (new : List ℕ) → at + n ≤ length s → new ≡ take (at + n - at) (drop at s)
+    → new ++ drop n (replicate m 0) ≡ padded m (take n (drop at s))
+copied s at n m new h e =
+    let k : n ≤ length (drop at s) = rw length-drop (omega arith) in
+    rw (e, add-sub_cancel_left at n, drop-zeros n m, length-take-le n (drop at s) k)
+
+-- ---- what reading answers
+pub text_copied : (s : List ℕ) (at : ℕ) (b : List ℕ) → b ≡ take (at + 52 - (at + 1)) (drop (at + 1) s)
+    → record { len = get_or s at 0; bytes = b } ≡ text_at s at
+text_copied s at b e =
     let k : at + 52 - (at + 1) ≡ 51 = omega arith in
     let g = rw k at e in
     rw g
 
-pub fields_are : (s : List ℕ) (h i l u v : CommandString) (k : ScreenAdditionalData)
-    → h ≡ text_at s 0 → i ≡ text_at s 52 → l ≡ text_at s 107 → u ≡ text_at s 163 → v ≡ text_at s 216 → k ≡ kind_at (get_or s 106 0)
-    → ◌≡◌ {A = ScreenPopupFields} (record {
-      header = h;
-      info = i;
-      max_timeout_interval = get_or s 104 0;
-      close_button_option = eqb (get_or s 105 0) 1;
-      additional_data = k;
-      selection_text = l;
-      value = get_or s 159 0;
-      min_value = get_or s 160 0;
-      max_value = get_or s 161 0;
-      default_value = get_or s 162 0;
-      unit = u;
-      has_possible_values = eqb (get_or s 215 0) 1;
-      possible_values = v;
-    }) (fields_at s)
-fields_are s h i l u v k e1 e2 e3 e4 e5 e6 =
-    fields-same (fields_at s) h i l u v (get_or s 104 0) (get_or s 159 0) (get_or s 160 0) (get_or s 161 0) (get_or s 162 0)
-    (eqb (get_or s 105 0) 1) (eqb (get_or s 215 0) 1) k e1 e2 refl refl e6 e3 refl refl refl refl e4 refl e5
+module _ (s : List ℕ) (l : length s ≡ 268) where
+  pub close-not : (r : Refusal) → flag_of (get_or s 105 0) ≡ Err r → fields_from s ≡ refused 5 0
+  close-not r e =
+      let n = read-not (eqb (get_or s 105 0) 1) (leb (get_or s 105 0) 1) r e in
+      from_unknown s l (rw n.0)
 
-pub fields_told : (s : List ℕ) (f : ScreenPopupFields) → fields_from s ≡ got (fields_at s) → f ≡ fields_at s
-    → FieldsIs (fields_from s) (record { outcome = Accepted; fields = f })
-fields_told s f e g = rw e (refl, g)
+  module _ (c : Bool) (e : flag_of (get_or s 105 0) ≡ Ok c) where
+    pub kind-not : (r : Refusal) → kind_of (get_or s 106 0) ≡ Err r → fields_from s ≡ refused 5 0
+    kind-not r g =
+        let n = read-ok (eqb (get_or s 105 0) 1) (leb (get_or s 105 0) 1) c e in
+        let m = read-not (kind_at (get_or s 106 0)) (leb (get_or s 106 0) 2) r g in
+        from_unknown s l (rw (n.0, m.0))
+
+    module _ (k : ScreenAdditionalData) (g : kind_of (get_or s 106 0) ≡ Ok k) where
+      pub present-not : (r : Refusal) → flag_of (get_or s 215 0) ≡ Err r → fields_from s ≡ refused 5 0
+      present-not r f =
+          let n = read-ok (eqb (get_or s 105 0) 1) (leb (get_or s 105 0) 1) c e in
+          let m = read-ok (kind_at (get_or s 106 0)) (leb (get_or s 106 0) 2) k g in
+          let o = read-not (eqb (get_or s 215 0) 1) (leb (get_or s 215 0) 1) r f in
+          from_unknown s l (rw (n.0, m.0, o.0))
+
+      pub each-got : (h i t u v : CommandString) (p : Bool) → flag_of (get_or s 215 0) ≡ Ok p
+          → h ≡ text_at s 0 → i ≡ text_at s 52 → t ≡ text_at s 107 → u ≡ text_at s 163 → v ≡ text_at s 216
+          → fields_from s ≡ got (record {
+            header = h;
+            info = i;
+            max_timeout_interval = get_or s 104 0;
+            close_button_option = c;
+            additional_data = k;
+            selection_text = t;
+            value = get_or s 159 0;
+            min_value = get_or s 160 0;
+            max_value = get_or s 161 0;
+            default_value = get_or s 162 0;
+            unit = u;
+            has_possible_values = p;
+            possible_values = v;
+          })
+      each-got h i t u v p f e1 e2 e3 e4 e5 =
+          let n = read-ok (eqb (get_or s 105 0) 1) (leb (get_or s 105 0) 1) c e in
+          let m = read-ok (kind_at (get_or s 106 0)) (leb (get_or s 106 0) 2) k g in
+          let o = read-ok (eqb (get_or s 215 0) 1) (leb (get_or s 215 0) 1) p f in
+          from-got s _ l (rw (n.0, m.0) o.0)
+          (sym (fields-same (fields_at s) h i t u v _ _ _ _ _ c p k e1 e2 refl n.1 m.1 e3 refl refl refl refl e4 o.1 e5))
+
+pub not_told : (a : Answer ScreenPopupFields) (r : Refusal) → a ≡ refused 5 0 → r ≡ RecordNotMade → FieldsIs a (Err r)
+not_told a r e f = rw (e, f)
+
+pub told_got : (a : Answer ScreenPopupFields) (f : ScreenPopupFields) → a ≡ got f → FieldsIs a (Ok f)
+told_got a f e = rw e

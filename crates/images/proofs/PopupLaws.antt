@@ -1,19 +1,19 @@
 -- A popup and its image are each other's. Assumes nothing.
+use Rattle.std.specs.Prelude.{Ok, Err}
 use Prim.Native.Nat.{ℕ, suc, ◌-◌, ◌%◌, ◌<◌}
 use mathlib.Core.Bool.{Bool, true, false}
 use mathlib.Core.List.{List, [], ◌∷◌}
-use mathlib.Core.Path.{◌≡◌, refl, ap}
+use mathlib.Core.Path.{◌≡◌, refl, ap, ◌∙◌}
 use native.Mathlib.Omega.{arith}
-use lib.ListN.{length, take, drop, get_or}
+use lib.ListN.{length, take, drop, get_or, length-drop}
+use lib.Seq.{take_all}
 use lib.Dec.{eqb}
 use borrow.Author.Tests.{eq-eqb, ne_eqb, eqb-true}
 use Rattle.codec.specs.Pick.{pick}
 use Rattle.codec.specs.Sheet.{got, refused}
-use Rattle.codec.specs.declared.refusal.Outcome.TheVariants.{Accepted, Refused}
 use Rattle.codec.specs.declared.refusal.Refusal.TheVariants.{RecordNotMade}
-use Rattle.families.specs.Fields.{PopupIs, popup_of}
+use Rattle.families.specs.Fields.{PopupIs}
 use Rattle.families.specs.declared.screen.ScreenPopup.{ScreenPopup}
-use Rattle.families.proofs.Stored.{rest_is}
 use Rattle.images.specs.Popup.{popup_image, popup_from}
 use Rattle.images.proofs.TextLaws.{byte_mod}
 
@@ -38,13 +38,11 @@ popup_forth s q b = by (eqb (length s) 56) refl
     by false e h = let z : ◌≡◌ {A = ℕ} 0 1 = cc in absurd (omega arith)
 
 -- ---- the ways through reading
-pub popup_none : (s : List ℕ) → (length s ≡ 56 → ⊥) → PopupIs (popup_from s) (record { outcome = Refused RecordNotMade; popup = popup_of [] })
-popup_none s h = rw (ne_eqb (length s) 56 h) (refl, refl)
+pub popup_none : (s : List ℕ) → (length s ≡ 56 → ⊥) → PopupIs (popup_from s) (Err RecordNotMade)
+popup_none s h = rw (ne_eqb (length s) 56 h)
 
-pub popup-got : (s b : List ℕ) → length s ≡ 56
-    → b ≡ take (length s - 1) (drop 1 s)
-    → PopupIs (popup_from s) (record { outcome = Accepted; popup = record { len = get_or s 0 0; bytes = b } })
-popup-got s b l e =
-    let r = rest_is s 1 in
-    let f : b ≡ drop 1 s = rw r at e in
-    rw (eq-eqb (length s) 56 l) (refl, rw f)
+pub popup-got : (s y b : List ℕ) → y ≡ s → length y ≡ 56 → b ≡ take (56 - 1) (drop 1 y) → PopupIs (popup_from s) (Ok (record { len = get_or y 0 0; bytes = b }))
+popup-got s y b w l e =
+    let d = length-drop 1 y in
+    let f : b ≡ drop 1 y = e ∙ take_all 55 (drop 1 y) (omega arith) in
+    rw (← w, eq-eqb (length y) 56 l) (rw f)

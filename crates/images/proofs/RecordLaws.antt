@@ -1,21 +1,23 @@
 -- A record and its image are each other's. Assumes nothing.
-use Prim.Native.Nat.{ℕ, ◌+◌, ◌-◌, ◌*◌, ◌%◌, ◌<◌, ◌≤◌}
-use mathlib.Core.Bool.{Bool, true, false}
-use mathlib.Core.List.{List, ◌∷◌, ◌++◌}
+use Rattle.std.specs.Prelude.{Ok, Err}
+use Prim.Native.Nat.{ℕ, ◌+◌, ◌-◌, ◌%◌, ◌<◌, ◌≤◌}
+use mathlib.Core.Bool.{Bool, true, false, ◌&&◌}
+use mathlib.Core.List.{List, [], ◌∷◌, ◌++◌, append_assoc}
 use mathlib.Core.Path.{◌≡◌, refl, ap, sym, ◌∙◌}
 use native.Mathlib.Omega.{arith}
 use lib.ListN.{length, take, drop, get_or, set, length-set, length-append, length-drop, take-append-drop}
-use lib.Seq.{sets, drop-cons, drop-drop, length-take-le, get_or_at, drop-append-add}
+use lib.Seq.{sets, sets-eq, drop-cons, drop-drop, length-take-le, take_all, get_or_at, drop-append-add}
 use lib.Dec.{eqb}
-use borrow.Author.Tests.{eq-eqb, ne_eqb}
+use borrow.Rule.Slice.PartMut.{put_mid}
+use lib.Pointwise.{pointwise}
+use borrow.Author.Tests.{eq-eqb}
 use Rattle.codec.specs.Pick.{pick}
 use Rattle.codec.specs.Sheet.{Answer, got, refused}
 use Rattle.codec.specs.Writing.{put_at}
-use Rattle.codec.specs.declared.refusal.Outcome.TheVariants.{Accepted}
 use Rattle.codec.proofs.Digits.{number-bytes}
-use Rattle.codec.proofs.Writes.{put-fits, length-put}
 use Rattle.codec.specs.Same.{same}
 use Rattle.codec.proofs.Same.{same_self, same_true, same_seam}
+use Rattle.codec.specs.declared.refusal.Refusal.TheVariants.{RecordNotMade}
 use Rattle.families.specs.Payload.{family_id}
 use Rattle.families.specs.declared.fc.FcCommand.TheVariants.{ForceDisarm, ScaleChannel}
 use Rattle.families.specs.declared.vtx.VtxCommand.{VtxCommand}
@@ -32,22 +34,13 @@ use Rattle.families.specs.declared.screen.ScreenCommand.TheVariants.{PopupMessag
 use Rattle.families.specs.declared.payload.CommandPayload.{CommandPayload}
 use Rattle.families.specs.declared.payload.CommandPayload.TheVariants.{Fc, Osd, Vtx, Led, General, Crossfire, FlowControl, Screen, Ack}
 use Rattle.families.proofs.PutFields.{behind}
-use Rattle.families.proofs.Stored.{rest_is}
 use Rattle.commands.specs.Reading.{CommandIs}
 use Rattle.commands.specs.declared.DirectCommands.{DirectCommands}
-use Rattle.commands.specs.declared.CommandAnswer.{CommandAnswer}
 use Rattle.images.specs.Text.{stored}
-use Rattle.images.specs.Values.{payload_laid, word_at, long_at, payload_at}
+use Rattle.images.specs.Values.{payload_laid, payload_at}
 use Rattle.images.specs.Record.{record_image, record_at, record_from}
-use Rattle.images.proofs.TextLaws.{front_put, byte_mod}
+use Rattle.images.proofs.TextLaws.{chunk-put, byte_mod}
 use Rattle.families.proofs.ScreenLaws.{bit_is}
-
--- a number of four bytes is two of two
-pub long_is : (s : List ℕ) (at r a b : ℕ) → r ≡ a * 65536 + b → a ≡ word_at s at → b ≡ word_at s (at + 2) → r ≡ long_at s at
-long_is s at r a b e f g =
-    let k : at + 2 + 1 ≡ at + 3 = omega arith in
-    let m = rw k at g in
-    omega arith
 
 -- ---- sizes
 pub laid-size : (p : CommandPayload) → length (payload_laid p) ≡ 11
@@ -89,29 +82,25 @@ record_size_lem c l =
     let b = laid-size c.payload in
     omega arith
 
--- ---- the image put: three bytes, the 11 of the payload, what is stored
-module _ (s s1 v b : List ℕ) (x y z : ℕ) (l : length b ≡ 55) (h : 70 ≤ length s) (m : length v ≡ 11)
-    (e : s1 ≡ put_at (set (set (set s 0 x) 1 y) 2 z) 3 v) where
-  front_kept : length (set (set (set s 0 x) 1 y) 2 z) ≡ length s
-  front_kept = simp length-set
+-- ---- the image put into the first 70 bytes, which are y: three bytes, the 11 of the payload, what is stored
+mid-put : (s v : List ℕ) (at n : ℕ) → at + n ≤ length s → length v ≡ n → put_mid at n s v ≡ sets s at v
+mid-put s v at n h l =
+    let k : at + n ≡ at + length v = omega arith in
+    let e : sets s at v ≡ take at s ++ (v ++ drop (at + length v) s) = simp append_assoc at (sets-eq v s at (omega arith)) in
+    ap (λ (r : List ℕ). take at s ++ (v ++ r)) (drop-drop n at s ∙ ap (λ (i : ℕ). drop i s) k) ∙ sym e
 
-  pub rest-room : 14 + (length b + 1) ≤ length s1
-  rest-room = let k : length s1 ≡ length s = ap length e ∙ length-put (set (set (set s 0 x) 1 y) 2 z) 3 v ∙ front_kept in omega arith
-
-  all_in : (s2 : List ℕ) (n : ℕ) → s2 ≡ sets s1 14 (stored n b) → s2 ≡ sets s 0 (x ∷ y ∷ z ∷ (v ++ stored n b))
-  all_in s2 n f =
-      let k = front_kept in
-      let t = set (set (set s 0 x) 1 y) 2 z in
-      behind t s1 s2 v (stored n b) 3 14 (e ∙ put-fits t 3 v (omega arith)) (omega arith) f
-
-pub record_put : (s s1 s2 v : List ℕ) (c : DirectCommands) (id : ℕ) → length c.bytes ≡ 55 → 70 ≤ length s
+pub record_put : (s y s2 v : List ℕ) (c : DirectCommands) (id : ℕ) → length c.bytes ≡ 55 → 70 ≤ length s → y ≡ take 70 s
     → v ≡ payload_laid c.payload → id ≡ family_id c.payload
-    → s1 ≡ put_at (set (set (set s 0 c.dst_addr) 1 c.src_addr) 2 id) 3 v → s2 ≡ sets s1 14 (stored c.len c.bytes)
-    → s2 ≡ put_at s 0 (record_image c)
-record_put s s1 s2 v c id l h g i e f =
+    → s2 ≡ sets (put_mid 3 11 (set (set (set y 0 c.dst_addr) 1 c.src_addr) 2 id) v) 14 (stored c.len c.bytes)
+    → s2 ++ drop 70 s ≡ put_at s 0 (record_image c)
+record_put s y s2 v c id l h e g i f =
+    let t = set (set (set y 0 c.dst_addr) 1 c.src_addr) 2 id in
     let m : length v ≡ 11 = ap length g ∙ laid-size c.payload in
-    let a = all_in s s1 v c.bytes c.dst_addr c.src_addr id l h m e s2 c.len f in
-    front_put s s2 (record_image c) 70 (record_size_lem c l) h (rw (g, i) at a)
+    let y-long : length y ≡ 70 = ap length e ∙ length-take-le 70 s h in
+    let t-long : length t ≡ length y = simp length-set in
+    let put : s2 ≡ sets y 0 (c.dst_addr ∷ c.src_addr ∷ id ∷ (v ++ stored c.len c.bytes)) =
+    behind t (put_mid 3 11 t v) s2 v (stored c.len c.bytes) 3 14 (mid-put t v 3 11 (omega arith) m) (omega arith) f in
+    chunk-put s y s2 (record_image c) 70 (record_size_lem c l) h e (rw (g, i) at put)
 
 -- ---- the part of an image that a payload decides
 abbrev pub id_and_laid : CommandPayload → List ℕ
@@ -120,17 +109,26 @@ id_and_laid p = family_id p ∷ payload_laid p
 part : (s : List ℕ) → length s ≡ 70 → take 12 (drop 2 s) ≡ get_or s 2 0 ∷ take 11 (drop 3 s)
 part s l = ap (λ (r : List ℕ). take 12 r) (drop-cons s 2 0 (omega arith))
 
-pub id_differs : (s : List ℕ) (p : CommandPayload) (id : ℕ) → length s ≡ 70 → id ≡ family_id p → (get_or s 2 0 ≡ id → ⊥)
-    → false ≡ same (id_and_laid p) (take 12 (drop 2 s))
-id_differs s p id l e n =
-    let d : eqb (family_id p) (get_or s 2 0) ≡ false = ne_eqb (family_id p) (get_or s 2 0) (λ q. n (sym q ∙ sym e)) in
-    sym (ap (λ (r : List ℕ). same (id_and_laid p) r) (part s l) ∙ ap (λ (t : Bool). pick t (same (payload_laid p) (take 11 (drop 3 s))) false) d)
+-- what `==` of slices answers
+same_is : (r s : List ℕ) → pointwise eqb r s ≡ same r s
+same_is [] [] = refl
+same_is [] (b ∷ s) = refl
+same_is (a ∷ r) [] = refl
+same_is (a ∷ r) (b ∷ s) = by (eqb a b) (same_is r s)
+  where
+    by : (t : Bool) → pointwise eqb r s ≡ same r s → (t && pointwise eqb r s) ≡ pick t (same r s) false
+    by true e = e
+    by false e = refl
 
 pub values_decide : (s v : List ℕ) (p : CommandPayload) (id : ℕ) (r : Bool) → length s ≡ 70 → id ≡ family_id p → get_or s 2 0 ≡ id → v ≡ payload_laid p
-    → r ≡ same v (take 11 (drop 3 s)) → r ≡ same (id_and_laid p) (take 12 (drop 2 s))
+    → r ≡ pointwise eqb v (take (length v) (take 67 (drop 3 s))) → r ≡ same (id_and_laid p) (take 12 (drop 2 s))
 values_decide s v p id r l e n g h =
     let d : eqb (family_id p) (get_or s 2 0) ≡ true = eq-eqb (family_id p) (get_or s 2 0) (sym e ∙ sym n) in
+    let m : length v ≡ 11 = ap length g ∙ laid-size p in
+    let b = length-drop 3 s in
+    let t : take 67 (drop 3 s) ≡ drop 3 s = take_all 67 (drop 3 s) (omega arith) in
     h
+    ∙ rw (m, t) (same_is v (take 11 (drop 3 s)))
     ∙ ap (λ (w : List ℕ). same w (take 11 (drop 3 s))) g
     ∙ sym (ap (λ (w : List ℕ). same (id_and_laid p) w) (part s l) ∙ ap (λ (t : Bool). pick t (same (payload_laid p) (take 11 (drop 3 s))) false) d)
 
@@ -163,10 +161,6 @@ image_same s l b =
     ∙ both_true (same w m)
 
 -- ---- the ways through reading
-pub from_other : (s : List ℕ) → (length s ≡ 70 → ⊥) → record_from s ≡ refused 5 0
-from_other s h =
-    ap (λ (t : Bool). pick t (pick (same (record_image (record_at s)) s) (got (record_at s)) (refused 5 0)) (refused 5 0)) (ne_eqb (length s) 70 h)
-
 from_is : (s : List ℕ) (b : Bool) → length s ≡ 70 → same (record_image (record_at s)) s ≡ b → record_from s ≡ pick b (got (record_at s)) (refused 5 0)
 from_is s b l e =
     ap (λ (t : Bool). pick t (pick (same (record_image (record_at s)) s) (got (record_at s)) (refused 5 0)) (refused 5 0)) (eq-eqb (length s) 70 l)
@@ -177,18 +171,18 @@ pub from-laid : (s : List ℕ) (p : CommandPayload) (b r : Bool) → length s �
 from-laid s p b r l h e f g =
     from_is s b l (image_same s l h ∙ ap (λ (q : CommandPayload). same (id_and_laid q) (take 12 (drop 2 s))) (sym e) ∙ sym f ∙ g)
 
-pub told : (a b : Answer DirectCommands) (r : CommandAnswer) → a ≡ b → CommandIs b r → CommandIs a r
-told a b r e h = rw e h
+pub not_told : (a : Answer DirectCommands) → a ≡ refused 5 0 → CommandIs a (Err RecordNotMade)
+not_told a e = rw e
 
-pub record_got : (s x : List ℕ) (p : CommandPayload) → length s ≡ 70 → p ≡ payload_at s → record_from s ≡ got (record_at s)
-    → x ≡ take (length s - 15) (drop 15 s)
+-- y are the bytes of s as an array
+pub record_got : (s y x : List ℕ) (p : CommandPayload) → y ≡ s → length y ≡ 70 → p ≡ payload_at y → record_from y ≡ got (record_at y)
+    → x ≡ take 55 (drop 15 y)
     → CommandIs (record_from s)
-    (record { outcome = Accepted; command = record { dst_addr = get_or s 0 0; src_addr = get_or s 1 0; payload = p; len = get_or s 14 0; bytes = x } })
-record_got s x p l e h f =
-    let k : x ≡ drop 15 s = rw (rest_is s 15) at f in
-    told (record_from s) (got (record_at s))
-    (record { outcome = Accepted; command = record { dst_addr = get_or s 0 0; src_addr = get_or s 1 0; payload = p; len = get_or s 14 0; bytes = x } })
-    h (refl, rw (e, k))
+    (Ok (record { dst_addr = get_or y 0 0; src_addr = get_or y 1 0; payload = p; len = get_or y 14 0; bytes = x }))
+record_got s y x p w l e h f =
+    let d = length-drop 15 y in
+    let k : x ≡ drop 15 y = f ∙ take_all 55 (drop 15 y) (omega arith) in
+    rw (ap record_from (sym w) ∙ h) (rw (e, k))
 
 -- ---- a record whose numbers fit their types
 abbrev pub FitsVtx : VtxCommand → Type 0

@@ -1,16 +1,16 @@
 -- Wrong answers that the contracts of the public functions rule out: the definition that the contract names, worked out for an input
 -- where the wrong answer would be another. That no other answer is allowed there is in OneAnswerImages.antt. Of `fields::from` see
 -- must-fail/flag_of_two and `Fields-back` in FieldsLaws.antt. Assumes nothing.
-use mathlib.Core.Bool.{false}
+use mathlib.Core.Bool.{true, false}
 use mathlib.Core.List.{[], ◌∷◌, ◌++◌}
 use mathlib.Core.Path.{◌≡◌, refl}
 use lib.ListN.{take, drop, replicate}
+use Rattle.std.specs.declared.result.Result.TheVariants.{Ok, Err}
 use Rattle.codec.specs.Sheet.{got, refused}
 use Rattle.codec.specs.Writing.{put_at}
 use Rattle.codec.specs.Refusals.{refusal_number}
 use Rattle.codec.specs.Told.{told_written}
-use Rattle.codec.specs.declared.refusal.Refusal.TheVariants.{BufferOverflow}
-use Rattle.codec.specs.declared.writer.Written.TheVariants.{Count}
+use Rattle.codec.specs.declared.refusal.Refusal.TheVariants.{BufferOverflow, RecordNotMade}
 use Rattle.families.specs.Text.{padded, text_of}
 use Rattle.families.specs.Ack.{ack_with}
 use Rattle.families.specs.Popup.{popup}
@@ -19,7 +19,7 @@ use Rattle.families.specs.declared.screen.ScreenAdditionalData.TheVariants.{Sele
 use Rattle.commands.specs.Command.{blank_command}
 use Rattle.images.specs.Text.{text_image}
 use Rattle.images.specs.Word.{word, answer_word}
-use Rattle.images.specs.Number.{number_at}
+use Rattle.images.specs.Number.{number_at, flag_of}
 use Rattle.images.specs.Ack.{ack_image}
 use Rattle.images.specs.Popup.{popup_image, popup_from}
 use Rattle.images.specs.Fields.{fields_image}
@@ -32,7 +32,7 @@ pub word-refused : word (refusal_number BufferOverflow) 0 0 ≡ 3
 word-refused = refl
 
 -- ---- word::written (and must-fail/count_of_place, count_in_low_bits)
-pub word-written : answer_word (told_written (Count 5)) ≡ 0x500
+pub word-written : answer_word (told_written (Ok 5)) ≡ 0x500
 word-written = refl
 
 -- ---- number::at (and must-fail/number_at_front)
@@ -43,6 +43,13 @@ number_high_first = refl
 -- a byte too few: not the number of those that are there
 pub number_not_there : number_at (1 ∷ 2 ∷ 3 ∷ []) 0 4 ≡ 0
 number_not_there = refl
+
+-- ---- number::flag (and must-fail/flag_of_3)
+pub flag_1 : flag_of 1 ≡ Ok true
+flag_1 = refl
+
+pub flag_2 : flag_of 2 ≡ Err RecordNotMade
+flag_2 = refl
 
 -- ---- stored::put, of a text
 -- no image is half put

@@ -1,11 +1,14 @@
 -- A stored length and its bytes, put; an image put at the front, or behind its head. Assumes nothing.
 use Prim.Native.Nat.{ℕ, suc, ◌+◌, ◌%◌, ◌<◌, ◌≤◌}
-use mathlib.Core.List.{List, ◌++◌}
-use mathlib.Core.Path.{◌≡◌, ap, sym, ◌∙◌}
+use mathlib.Core.Bool.{Bool, true, false}
+use mathlib.Core.List.{List, [], ◌++◌, append-nil}
+use mathlib.Core.Path.{◌≡◌, refl, ap, sym, ◌∙◌}
 use native.Mathlib.Omega.{arith}
-use lib.ListN.{length, take, drop, set, length-set, length-append, length-drop}
-use lib.Seq.{sets, length-sets, length-take-le}
+use lib.ListN.{length, take, drop, set, length-set, length-append, length-drop, drop_of_length-le}
+use lib.Seq.{sets, sets-eq, length-sets, length-take-le}
 use borrow.Rule.Slice.PartMut.{put_mid}
+use Rattle.std.specs.Int.{from_bool}
+use Rattle.codec.specs.Told.{bit}
 use Rattle.codec.specs.Writing.{put_at}
 use Rattle.codec.proofs.Loops.{sets_append}
 use Rattle.codec.proofs.Writes.{put-fits, put-not, put_first, length-put}
@@ -22,6 +25,15 @@ stored-put s s' b at n h e =
 -- an image at the front, and none where there is no room
 pub front_put : (s s' w : List ℕ) (n : ℕ) → length w ≡ n → n ≤ length s → s' ≡ sets s 0 w → s' ≡ put_at s 0 w
 front_put s s' w n l h e = e ∙ sym (put-fits s 0 w (omega arith))
+
+-- an image put into the first n bytes, which are y
+pub chunk-put : (s y z w : List ℕ) (n : ℕ) → length w ≡ n → n ≤ length s → y ≡ take n s → z ≡ sets y 0 w → z ++ drop n s ≡ put_at s 0 w
+chunk-put s y z w n l h e g =
+    let t : length y ≡ n = ap length e ∙ length-take-le n s h in
+    let d : drop (0 + length w) y ≡ [] = drop_of_length-le y {i = 0 + length w} (omega arith) in
+    let k : z ≡ w = g ∙ sets-eq w y 0 (omega arith) ∙ ap (λ (r : List ℕ). w ++ r) d ∙ append-nil w in
+    let o : n ≡ 0 + length w = omega arith in
+    rw (k, o) (sym (put-fits s 0 w (omega arith) ∙ sets-eq w s 0 (omega arith)))
 
 pub front_not : (s w : List ℕ) (n : ℕ) → length w ≡ n → length s < n → s ≡ put_at s 0 w
 front_not s w n l h = sym (put-not s 0 w (omega arith))
@@ -46,3 +58,8 @@ text-size t l = ap suc l
 
 pub byte_mod : (n : ℕ) → n < 256 → n % 256 ≡ n
 byte_mod n h = omega arith
+
+-- the byte of a flag
+pub flag-byte : (b : Bool) → from_bool b ≡ bit b
+flag-byte true = refl
+flag-byte false = refl

@@ -1,8 +1,12 @@
 -- The C boundary's image of a popup's fields (include/crsf.h). Assumes nothing.
 use Rattle.std.specs.Prelude.{ℕ, ◌+◌, Bool, false, List, [], ◌∷◌, ◌++◌, length, take, drop, get_or, leb, eqb}
+use Rattle.std.specs.declared.result.Result.{Result}
+use Rattle.std.specs.declared.result.Result.TheVariants.{Ok, Err}
 use Rattle.codec.specs.Pick.{pick}
 use Rattle.codec.specs.Sheet.{Answer, got, refused}
 use Rattle.codec.specs.Told.{bit}
+use Rattle.codec.specs.declared.refusal.Refusal.{Refusal}
+use Rattle.codec.specs.declared.refusal.Refusal.TheVariants.{RecordNotMade}
 use Rattle.families.specs.declared.text.CommandString.{CommandString}
 use Rattle.families.specs.declared.screen.ScreenAdditionalData.{ScreenAdditionalData}
 use Rattle.families.specs.declared.screen.ScreenAdditionalData.TheVariants.{Absent, Empty, Selection}
@@ -33,12 +37,16 @@ fields_image f =
     ++ (bit f.has_possible_values
     ∷ text_image f.possible_values))))))
 
--- its parts: header to kind; label to unit
-abbrev pub head_image : CommandString → CommandString → ℕ → Bool → ScreenAdditionalData → List ℕ
-head_image header info timeout close kind = text_image header ++ (text_image info ++ timeout ∷ bit close ∷ kind_byte kind ∷ [])
+-- its parts: header to kind; label to unit; possible values
+abbrev pub head_image : ScreenPopupFields → List ℕ
+head_image f = text_image f.header ++ (text_image f.info ++ f.max_timeout_interval ∷ bit f.close_button_option ∷ kind_byte f.additional_data ∷ [])
 
-abbrev pub selection_image : CommandString → ℕ → ℕ → ℕ → ℕ → CommandString → List ℕ
-selection_image label value lowest highest default unit = text_image label ++ ((value ∷ lowest ∷ highest ∷ default ∷ []) ++ text_image unit)
+abbrev pub selection_image : ScreenPopupFields → List ℕ
+selection_image f =
+    text_image f.selection_text ++ ((f.value ∷ f.min_value ∷ f.max_value ∷ f.default_value ∷ []) ++ text_image f.unit)
+
+abbrev pub values_image : ScreenPopupFields → List ℕ
+values_image f = bit f.has_possible_values ∷ text_image f.possible_values
 
 -- AN IMAGE HANDED IN: each part at its place
 abbrev pub text_at : List ℕ → ℕ → CommandString
@@ -46,6 +54,10 @@ text_at s at = record { len = get_or s at 0; bytes = take 51 (drop (at + 1) s) }
 
 abbrev pub kind_at : ℕ → ScreenAdditionalData
 kind_at b = pick (eqb b 0) Absent (pick (eqb b 1) Empty Selection)
+
+-- another byte is 5
+abbrev pub kind_of : ℕ → Result ScreenAdditionalData Refusal
+kind_of b = pick (leb b 2) (Ok (kind_at b)) (Err RecordNotMade)
 
 abbrev pub fields_at : List ℕ → ScreenPopupFields
 fields_at s = record {

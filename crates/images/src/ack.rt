@@ -3,7 +3,7 @@ ghost use Rattle.std.specs.Prelude.{◌≡◌};
 ghost use Rattle.codec.specs.Writing.{put_at};
 ghost use Rattle.images.specs.Ack.{ack_image};
 
-use families::ack::AckAnswer;
+use families::ack::AckRead;
 
 // Where its parts stand, and its size, in include/crsf.h's words.
 const ACK_COMMAND_ID: usize = 0;
@@ -19,21 +19,20 @@ pub const ACK_SIZE: usize = 56;
 // "information up to 52 bytes"
 const MAX_ACK_INFORMATION_LEN: usize = 52;
 
-// The image at the front, where all of it has room. An ACK's information stands beside it in the answer.
-pub fn put(answer: AckAnswer, out: &mut [u8])
+// The image at the front, where all of it has room.
+pub fn put(answer: AckRead, out: &mut [u8])
     ensures { out.new ≡ put_at out.old 0 (ack_image answer.ack answer.len answer.bytes) }
 {
-    if out.len() < ACK_SIZE {
+    let Some(image) = out.first_chunk_mut::<ACK_SIZE>() else {
         return;
-    }
-    let information = answer.bytes;
-    out[ACK_COMMAND_ID] = answer.ack.command_id;
-    out[ACK_SUB_COMMAND_ID] = answer.ack.sub_command_id;
-    out[ACK_ACTION] = answer.ack.action;
+    };
+    image[ACK_COMMAND_ID] = answer.ack.command_id;
+    image[ACK_SUB_COMMAND_ID] = answer.ack.sub_command_id;
+    image[ACK_ACTION] = answer.ack.action;
     crate::stored::put_at(
-        out,
+        image,
         ACK_LENGTH,
         answer.len,
-        &information[..MAX_ACK_INFORMATION_LEN],
+        &answer.bytes[..MAX_ACK_INFORMATION_LEN],
     );
 }

@@ -1,17 +1,16 @@
 // The image of a popup's fields.
-ghost use Rattle.std.specs.Prelude.{◌≡◌, ◌∷◌, ◌+◌, ◌≤◌, length};
+ghost use Rattle.std.specs.Prelude.{◌≡◌, ◌+◌, ◌≤◌, length};
 ghost use Rattle.std.proofs.lemmas.List.Edits.{sets};
-ghost use Rattle.codec.specs.Sheet.{refused};
 ghost use Rattle.codec.specs.Writing.{put_at};
-ghost use Rattle.codec.specs.Told.{bit};
 ghost use Rattle.families.specs.Fields.{FieldsIs};
 ghost use Rattle.images.specs.Text.{text_image};
-ghost use Rattle.images.specs.Fields.{kind_byte, head_image, selection_image, fields_image, text_at, kind_at, known, fields_at, fields_from};
+ghost use Rattle.images.specs.Fields.{head_image, selection_image, values_image, fields_image, text_at, kind_of, fields_from};
 
+use crate::number::flag;
 use crate::stored::{TEXT_BYTES, TEXT_SIZE};
 use codec::reader::MAX_COMMAND_STRING_LEN;
-use codec::refusal::{Outcome, Refusal};
-use families::screen::{FieldsAnswer, ScreenAdditionalData, ScreenPopupFields};
+use codec::refusal::Refusal;
+use families::screen::{ScreenAdditionalData, ScreenPopupFields};
 use families::text::CommandString;
 
 // Where its parts stand, and its size, in include/crsf.h's words.
@@ -43,196 +42,105 @@ const FIELDS_POSSIBLE_VALUES: usize = 216;
 
 pub const FIELDS_SIZE: usize = 268;
 
-// Whether there is additional data, and which.
-const ADDITIONAL_ABSENT: u8 = 0;
-
-const ADDITIONAL_EMPTY: u8 = 1;
-
-const ADDITIONAL_SELECTION: u8 = 2;
-
-fn kind_byte(kind: ScreenAdditionalData) -> u8
-    ensures { result ≡ kind_byte kind }
-{
-    match kind {
-        ScreenAdditionalData::Absent => ADDITIONAL_ABSENT,
-        ScreenAdditionalData::Empty => ADDITIONAL_EMPTY,
-        ScreenAdditionalData::Selection => ADDITIONAL_SELECTION,
-    }
-}
-
 // A text's image at a place that has room for it.
-fn put_text(out: &mut [u8], at: usize, text: CommandString)
+fn put_text(text: &CommandString, out: &mut [u8], at: usize)
     requires { at + 52 ≤ length out.old }
-    ensures { out.new ≡ sets out.old at (text_image text) }
+    ensures image { out.new ≡ sets out.old at (text_image text.now) }
+    ensures len { length (text_image text.now) ≡ 52 }
 {
-    let stored = text.bytes;
-    crate::stored::put_at(out, at, text.len, &stored);
+    crate::stored::put_at(out, at, text.len, &text.bytes);
 }
 
 // Header, info, timeout, close, additional.
-fn put_head(
-    out: &mut [u8],
-    header: CommandString,
-    info: CommandString,
-    timeout: u8,
-    close: bool,
-    kind: ScreenAdditionalData,
-)
-    requires { 268 ≤ length out.old }
-    ensures { out.new ≡ sets out.old 0 (head_image header info timeout close kind) }
+fn put_head(fields: &ScreenPopupFields, image: &mut [u8; FIELDS_SIZE])
+    ensures { image.new ≡ sets image.old 0 (head_image fields.now) }
 {
-    let three = [timeout, codec::writer::bit_of(close), kind_byte(kind)];
-    put_text(out, FIELDS_HEADER, header);
-    put_text(out, FIELDS_INFO, info);
-    codec::writer::put_bytes(out, FIELDS_TIMEOUT, &three);
+    put_text(&fields.header, image, FIELDS_HEADER);
+    put_text(&fields.info, image, FIELDS_INFO);
+    image[FIELDS_TIMEOUT] = fields.max_timeout_interval;
+    image[FIELDS_CLOSE] = u8::from(fields.close_button_option);
+    image[FIELDS_ADDITIONAL] = fields.additional_data as u8;
 }
 
 // Label, value, min, max, default, unit.
-fn put_selection(
-    out: &mut [u8],
-    label: CommandString,
-    value: u8,
-    min_value: u8,
-    max_value: u8,
-    default_value: u8,
-    unit: CommandString,
-)
-    requires { 268 ≤ length out.old }
-    ensures { out.new ≡ sets out.old 107
-        (selection_image label value min_value max_value default_value unit) }
+fn put_selection(fields: &ScreenPopupFields, image: &mut [u8; FIELDS_SIZE])
+    ensures { image.new ≡ sets image.old 107 (selection_image fields.now) }
 {
-    let four = [value, min_value, max_value, default_value];
-    put_text(out, FIELDS_LABEL, label);
-    codec::writer::put_bytes(out, FIELDS_VALUE, &four);
-    put_text(out, FIELDS_UNIT, unit);
+    put_text(&fields.selection_text, image, FIELDS_LABEL);
+    image[FIELDS_VALUE] = fields.value;
+    image[FIELDS_MIN] = fields.min_value;
+    image[FIELDS_MAX] = fields.max_value;
+    image[FIELDS_DEFAULT] = fields.default_value;
+    put_text(&fields.unit, image, FIELDS_UNIT);
 }
 
 // Possible values: present, text.
-fn put_values(out: &mut [u8], present: bool, values: CommandString)
-    requires { 268 ≤ length out.old }
-    ensures { out.new ≡ sets out.old 215 (bit present ∷ text_image values) }
+fn put_values(fields: &ScreenPopupFields, image: &mut [u8; FIELDS_SIZE])
+    ensures { image.new ≡ sets image.old 215 (values_image fields.now) }
 {
-    out[FIELDS_HAS_POSSIBLE_VALUES] = codec::writer::bit_of(present);
-    put_text(out, FIELDS_POSSIBLE_VALUES, values);
+    image[FIELDS_HAS_POSSIBLE_VALUES] = u8::from(fields.has_possible_values);
+    put_text(&fields.possible_values, image, FIELDS_POSSIBLE_VALUES);
 }
 
 // The image at the front, where all of it has room.
 pub fn put(fields: ScreenPopupFields, out: &mut [u8])
     ensures { out.new ≡ put_at out.old 0 (fields_image fields) }
 {
-    if out.len() < FIELDS_SIZE {
+    let Some(image) = out.first_chunk_mut::<FIELDS_SIZE>() else {
         return;
-    }
-    let header = fields.header;
-    let info = fields.info;
-    let kind = fields.additional_data;
-    put_head(
-        out,
-        header,
-        info,
-        fields.max_timeout_interval,
-        fields.close_button_option,
-        kind,
-    );
-    let label = fields.selection_text;
-    let unit = fields.unit;
-    put_selection(
-        out,
-        label,
-        fields.value,
-        fields.min_value,
-        fields.max_value,
-        fields.default_value,
-        unit,
-    );
-    let values = fields.possible_values;
-    put_values(out, fields.has_possible_values, values);
+    };
+    put_head(&fields, image);
+    put_selection(&fields, image);
+    put_values(&fields, image);
 }
 
-fn text_at(image: &[u8], at: usize) -> CommandString
-    requires { at + 52 ≤ length image.now }
+fn text_at(image: &[u8; FIELDS_SIZE], at: usize) -> CommandString
+    requires { at + 52 ≤ 268 }
     ensures { result ≡ text_at image.now at }
 {
-    let mut stored = [0u8; MAX_COMMAND_STRING_LEN];
-    let start = at + TEXT_BYTES;
-    let end = at + TEXT_SIZE;
-    stored.copy_from_slice(&image[start..end]);
+    let mut stored = [0; MAX_COMMAND_STRING_LEN];
+    stored.copy_from_slice(&image[at + TEXT_BYTES..at + TEXT_SIZE]);
     CommandString {
         len: image[at] as usize,
         bytes: stored,
     }
 }
 
-fn kind_at(byte: u8) -> ScreenAdditionalData
-    ensures { result ≡ kind_at byte }
+// The kind whose number `put_head` puts; of a byte above 2: 5. No TryFrom: the type is of families, its numbers are include/crsf.h's.
+fn kind(byte: u8) -> Result<ScreenAdditionalData, Refusal>
+    ensures { result ≡ kind_of byte }
 {
     match byte {
-        ADDITIONAL_ABSENT => ScreenAdditionalData::Absent,
-        ADDITIONAL_EMPTY => ScreenAdditionalData::Empty,
-        _ => ScreenAdditionalData::Selection,
+        0 => Ok(ScreenAdditionalData::Absent),
+        1 => Ok(ScreenAdditionalData::Empty),
+        2 => Ok(ScreenAdditionalData::Selection),
+        _ => Err(Refusal::RecordNotMade),
     }
 }
 
-// Whether flags and kind are in range.
-fn in_range(close: u8, kind: u8, present: u8) -> bool
-    ensures { result ≡ known close kind present }
+// The fields of an image; of other bytes 5.
+pub fn from(image: &[u8]) -> Result<ScreenPopupFields, Refusal>
+    ensures { FieldsIs (fields_from image.now) result }
 {
-    if 1 < close {
-        return false;
-    }
-    if ADDITIONAL_SELECTION < kind {
-        return false;
-    }
-    present <= 1
-}
-
-fn fields_at(image: &[u8]) -> ScreenPopupFields
-    requires { 268 ≤ length image.now }
-    ensures { result ≡ fields_at image.now }
-{
-    ScreenPopupFields {
+    let Some(image) = image.as_array::<FIELDS_SIZE>() else {
+        return Err(Refusal::RecordNotMade);
+    };
+    let close_button_option = flag(image[FIELDS_CLOSE])?;
+    let additional_data = kind(image[FIELDS_ADDITIONAL])?;
+    let has_possible_values = flag(image[FIELDS_HAS_POSSIBLE_VALUES])?;
+    Ok(ScreenPopupFields {
         header: text_at(image, FIELDS_HEADER),
         info: text_at(image, FIELDS_INFO),
         max_timeout_interval: image[FIELDS_TIMEOUT],
-        close_button_option: image[FIELDS_CLOSE] == 1,
-        additional_data: kind_at(image[FIELDS_ADDITIONAL]),
+        close_button_option,
+        additional_data,
         selection_text: text_at(image, FIELDS_LABEL),
         value: image[FIELDS_VALUE],
         min_value: image[FIELDS_MIN],
         max_value: image[FIELDS_MAX],
         default_value: image[FIELDS_DEFAULT],
         unit: text_at(image, FIELDS_UNIT),
-        has_possible_values: image[FIELDS_HAS_POSSIBLE_VALUES] == 1,
+        has_possible_values,
         possible_values: text_at(image, FIELDS_POSSIBLE_VALUES),
-    }
-}
-
-// 5, and blank fields.
-fn not_made() -> FieldsAnswer
-    ensures { FieldsIs (refused 5 0) result }
-{
-    FieldsAnswer {
-        outcome: Outcome::Refused(Refusal::RecordNotMade),
-        fields: ScreenPopupFields::blank(),
-    }
-}
-
-// The fields of an image; of other bytes 5, and blank ones.
-pub fn from(image: &[u8]) -> FieldsAnswer
-    ensures { FieldsIs (fields_from image.now) result }
-{
-    if image.len() != FIELDS_SIZE {
-        return not_made();
-    }
-    if in_range(
-        image[FIELDS_CLOSE],
-        image[FIELDS_ADDITIONAL],
-        image[FIELDS_HAS_POSSIBLE_VALUES],
-    ) {
-        return FieldsAnswer {
-            outcome: Outcome::Accepted,
-            fields: fields_at(image),
-        };
-    }
-    not_made()
+    })
 }

@@ -2,8 +2,8 @@
 ghost use Rattle.families.specs.Fields.{PopupIs};
 ghost use Rattle.images.specs.Popup.{popup_from};
 
-use codec::refusal::{Outcome, Refusal};
-use families::screen::{PopupAnswer, ScreenPopup};
+use codec::refusal::Refusal;
+use families::screen::ScreenPopup;
 
 // Where its parts stand, and its size, in include/crsf.h's words.
 const POPUP_LENGTH: usize = 0;
@@ -14,26 +14,17 @@ pub const POPUP_SIZE: usize = 56;
 
 const STORED: usize = POPUP_SIZE - POPUP_BYTES;
 
-// The popup of an image; of other bytes 5, and the blank one.
-pub fn from(image: &[u8]) -> PopupAnswer
+// The popup of an image; of other bytes 5.
+pub fn from(image: &[u8]) -> Result<ScreenPopup, Refusal>
     ensures { PopupIs (popup_from image.now) result }
 {
-    let mut stored = [0u8; STORED];
-    if image.len() != POPUP_SIZE {
-        return PopupAnswer {
-            outcome: Outcome::Refused(Refusal::RecordNotMade),
-            popup: ScreenPopup {
-                len: 0,
-                bytes: stored,
-            },
-        };
-    }
+    let Some(image) = image.as_array::<POPUP_SIZE>() else {
+        return Err(Refusal::RecordNotMade);
+    };
+    let mut stored = [0; STORED];
     stored.copy_from_slice(&image[POPUP_BYTES..]);
-    PopupAnswer {
-        outcome: Outcome::Accepted,
-        popup: ScreenPopup {
-            len: image[POPUP_LENGTH] as usize,
-            bytes: stored,
-        },
-    }
+    Ok(ScreenPopup {
+        len: image[POPUP_LENGTH] as usize,
+        bytes: stored,
+    })
 }

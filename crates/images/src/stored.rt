@@ -1,4 +1,5 @@
-// The image of stored bytes, a text's or a popup's, and of those anywhere in an image: their length, then they.
+// The image of stored bytes, a text's or a popup's, and of those anywhere in an image: their length, then they. Length and bytes come
+// one by one, since they are parts of records of other crates, arrays of two sizes with no heap behind them.
 ghost use Rattle.std.specs.Prelude.{◌≡◌, ◌+◌, ◌≤◌, length};
 ghost use Rattle.std.proofs.lemmas.List.Edits.{sets};
 ghost use Rattle.codec.specs.Writing.{put_at};

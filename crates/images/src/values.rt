@@ -1,9 +1,9 @@
 // The sub-command and the values of a payload, as they stand in a record's image: 11 bytes from place 3 on.
-ghost use Rattle.std.specs.Prelude.{◌≡◌, ◌∷◌, [], ◌++◌, ◌+◌, ◌*◌, ◌/◌, ◌%◌, ◌<◌, ◌≤◌, length};
-ghost use Rattle.codec.specs.Digits.{number_of, bytes_of};
-ghost use Rattle.images.specs.Values.{laid, fc_laid, vtx_laid, color_bytes, led_laid, general_laid, crossfire_laid, flow_laid, screen_laid, ack_laid, payload_laid, word_at, color_at, fc_at, vtx_at, led_at, general_at, crossfire_at, flow_at, screen_at, ack_at, payload_at};
+ghost use Rattle.std.specs.Prelude.{◌≡◌, ◌++◌, ◌+◌, ◌≤◌, length};
+ghost use Rattle.codec.specs.Digits.{bytes_of};
+ghost use Rattle.images.specs.Values.{laid, fc_laid, vtx_laid, color_bytes, led_laid, general_laid, crossfire_laid, flow_laid, screen_laid, ack_laid, payload_laid, word_at, long_at, color_at, fc_at, vtx_at, led_at, general_at, crossfire_at, flow_at, screen_at, ack_at, payload_at};
 
-use crate::record::{RECORD_ID, RECORD_SUB_COMMAND, RECORD_VALUES};
+use crate::record::{RECORD_ID, RECORD_SIZE, RECORD_SUB_COMMAND, RECORD_VALUES};
 use families::ack::CommandAck;
 use families::crossfire::{
     CrossfireCommand, SUB_COMMAND_ID_CROSSFIRE_CANCEL_BIND_MODE,
@@ -44,7 +44,9 @@ use families::vtx::{
 };
 
 // The sub-command, and 10 bytes of values.
-pub(crate) type Laid = [u8; 11];
+const VALUES: usize = 10;
+
+pub(crate) type Laid = [u8; 1 + VALUES];
 
 // What an ACK has where a sub-command stands.
 const ACK_NO_SUB_COMMAND: u8 = 0x00;
@@ -59,146 +61,83 @@ const START_COLOR: usize = RECORD_VALUES + 2;
 
 const STOP_COLOR: usize = START_COLOR + 4;
 
-// The byte of a number at a unit: 1 for its last, 0x100 for the one before.
-fn digit(number: u32, unit: u32) -> u8
-    requires { 0 < unit }
-    ensures { result ≡ number / unit % 256 }
+// Inlined, so that values whose count is known are not copied in a loop.
+#[inline(always)]
+fn laid(sub: u8, values: &[u8]) -> Laid
+    requires { length values.now ≤ 10 }
+    ensures { result ≡ laid sub values.now }
 {
-    (number / unit % 256) as u8
-}
-
-fn alone(sub: u8) -> Laid
-    ensures { result ≡ laid sub [] }
-{
-    [sub, 0, 0, 0, 0, 0, 0, 0, 0, 0, 0]
-}
-
-fn with_byte(sub: u8, value: u8) -> Laid
-    ensures { result ≡ laid sub (value ∷ []) }
-{
-    [sub, value, 0, 0, 0, 0, 0, 0, 0, 0, 0]
-}
-
-fn with_three(sub: u8, first: u8, second: u8, third: u8) -> Laid
-    ensures { result ≡ laid sub (first ∷ second ∷ third ∷ []) }
-{
-    [sub, first, second, third, 0, 0, 0, 0, 0, 0, 0]
+    let mut image = [0; 1 + VALUES];
+    image[0] = sub;
+    image[1..1 + values.len()].copy_from_slice(values);
+    image
 }
 
 fn fc_laid(command: FcCommand) -> Laid
     ensures { result ≡ fc_laid command }
 {
     match command {
-        FcCommand::ForceDisarm => alone(SUB_COMMAND_ID_FC_FORCE_DISARM),
-        FcCommand::ScaleChannel => alone(SUB_COMMAND_ID_FC_SCALE_CHANNEL),
+        FcCommand::ForceDisarm => laid(SUB_COMMAND_ID_FC_FORCE_DISARM, &[]),
+        FcCommand::ScaleChannel => laid(SUB_COMMAND_ID_FC_SCALE_CHANNEL, &[]),
     }
-}
-
-fn frequency_laid(frequency: u16) -> Laid
-    ensures { result ≡ laid 0x02 (bytes_of 2 frequency) }
-{
-    let number = frequency as u32;
-    with_three(
-        SUB_COMMAND_ID_VTX_SET_FREQUENCY,
-        digit(number, 0x100),
-        digit(number, 1),
-        0,
-    )
 }
 
 fn vtx_laid(command: VtxCommand) -> Laid
     ensures { result ≡ vtx_laid command }
 {
     match command {
-        VtxCommand::SetFrequency(frequency) => frequency_laid(frequency),
+        VtxCommand::SetFrequency(frequency) => {
+            laid(SUB_COMMAND_ID_VTX_SET_FREQUENCY, &frequency.to_be_bytes())
+        }
         VtxCommand::EnablePitModeOnPowerUp {
             pit_mode,
             pit_mode_control,
             pit_mode_switch,
-        } => {
-            let mode = codec::writer::bit_of(pit_mode);
-            with_three(
-                SUB_COMMAND_ID_VTX_ENABLE_PIT_MODE_ON_POWER_UP,
-                mode,
-                pit_mode_control,
-                pit_mode_switch,
-            )
-        }
-        VtxCommand::PowerUpFromPitMode => alone(SUB_COMMAND_ID_VTX_POWER_UP_FROM_PIT_MODE),
+        } => laid(
+            SUB_COMMAND_ID_VTX_ENABLE_PIT_MODE_ON_POWER_UP,
+            &[u8::from(pit_mode), pit_mode_control, pit_mode_switch],
+        ),
+        VtxCommand::PowerUpFromPitMode => laid(SUB_COMMAND_ID_VTX_POWER_UP_FROM_PIT_MODE, &[]),
         VtxCommand::SetDynamicPower(power) => {
-            with_byte(SUB_COMMAND_ID_VTX_SET_DYNAMIC_POWER, power)
+            laid(SUB_COMMAND_ID_VTX_SET_DYNAMIC_POWER, &[power])
         }
-        VtxCommand::SetPower(power) => with_byte(SUB_COMMAND_ID_VTX_SET_POWER, power),
+        VtxCommand::SetPower(power) => laid(SUB_COMMAND_ID_VTX_SET_POWER, &[power]),
     }
 }
 
-fn color_laid(color: LedColor) -> Laid
-    ensures { result ≡ laid 0x02 (color_bytes color) }
+fn color_bytes(color: LedColor) -> [u8; 4]
+    ensures { result ≡ color_bytes color }
 {
-    let hue = color.hue as u32;
-    [
-        SUB_COMMAND_ID_LED_OVERRIDE_COLOR,
-        digit(hue, 0x100),
-        digit(hue, 1),
-        color.saturation,
-        color.value,
-        0,
-        0,
-        0,
-        0,
-        0,
-        0,
-    ]
+    let [high, low] = color.hue.to_be_bytes();
+    [high, low, color.saturation, color.value]
 }
 
 // A pulse or a blink, by its sub-command.
 fn fade_laid(sub: u8, time: u16, start: LedColor, stop: LedColor) -> Laid
     ensures { result ≡ laid sub (bytes_of 2 time ++ (color_bytes start ++ color_bytes stop)) }
 {
-    let time_ms = time as u32;
-    let start_hue = start.hue as u32;
-    let stop_hue = stop.hue as u32;
-    [
-        sub,
-        digit(time_ms, 0x100),
-        digit(time_ms, 1),
-        digit(start_hue, 0x100),
-        digit(start_hue, 1),
-        start.saturation,
-        start.value,
-        digit(stop_hue, 0x100),
-        digit(stop_hue, 1),
-        stop.saturation,
-        stop.value,
-    ]
+    let [high, low] = time.to_be_bytes();
+    let [a, b, c, d] = color_bytes(start);
+    let [e, f, g, h] = color_bytes(stop);
+    laid(sub, &[high, low, a, b, c, d, e, f, g, h])
 }
 
 fn shift_laid(time: u16, color: LedColor) -> Laid
     ensures { result ≡ laid 0x05 (bytes_of 2 time ++ color_bytes color) }
 {
-    let time_ms = time as u32;
-    let hue = color.hue as u32;
-    [
-        SUB_COMMAND_ID_LED_OVERRIDE_SHIFT,
-        digit(time_ms, 0x100),
-        digit(time_ms, 1),
-        digit(hue, 0x100),
-        digit(hue, 1),
-        color.saturation,
-        color.value,
-        0,
-        0,
-        0,
-        0,
-    ]
+    let [high, low] = time.to_be_bytes();
+    let [a, b, c, d] = color_bytes(color);
+    laid(SUB_COMMAND_ID_LED_OVERRIDE_SHIFT, &[high, low, a, b, c, d])
 }
 
 fn led_laid(command: LedCommand) -> Laid
     ensures { result ≡ led_laid command }
 {
     match command {
-        LedCommand::SetDefault => alone(SUB_COMMAND_ID_LED_SET_DEFAULT),
-        LedCommand::OverrideColor(color) => color_laid(color),
+        LedCommand::SetDefault => laid(SUB_COMMAND_ID_LED_SET_DEFAULT, &[]),
+        LedCommand::OverrideColor(color) => {
+            laid(SUB_COMMAND_ID_LED_OVERRIDE_COLOR, &color_bytes(color))
+        }
         LedCommand::OverridePulse {
             duration_ms,
             start,
@@ -213,24 +152,6 @@ fn led_laid(command: LedCommand) -> Laid
     }
 }
 
-fn proposal_laid(port: u8, baud: u32) -> Laid
-    ensures { result ≡ laid 0x70 (port ∷ bytes_of 4 baud) }
-{
-    [
-        SUB_COMMAND_ID_GENERAL_SPEED_PROPOSAL,
-        port,
-        digit(baud, 0x1000000),
-        digit(baud, 0x10000),
-        digit(baud, 0x100),
-        digit(baud, 1),
-        0,
-        0,
-        0,
-        0,
-        0,
-    ]
-}
-
 fn general_laid(command: GeneralCommand) -> Laid
     ensures { result ≡ general_laid command }
 {
@@ -238,16 +159,17 @@ fn general_laid(command: GeneralCommand) -> Laid
         GeneralCommand::SpeedProposal {
             port_id,
             proposed_baudrate,
-        } => proposal_laid(port_id, proposed_baudrate),
-        GeneralCommand::SpeedProposalResponse { port_id, accepted } => {
-            let flag = codec::writer::bit_of(accepted);
-            with_three(
-                SUB_COMMAND_ID_GENERAL_SPEED_PROPOSAL_RESPONSE,
-                port_id,
-                flag,
-                0,
+        } => {
+            let [a, b, c, d] = proposed_baudrate.to_be_bytes();
+            laid(
+                SUB_COMMAND_ID_GENERAL_SPEED_PROPOSAL,
+                &[port_id, a, b, c, d],
             )
         }
+        GeneralCommand::SpeedProposalResponse { port_id, accepted } => laid(
+            SUB_COMMAND_ID_GENERAL_SPEED_PROPOSAL_RESPONSE,
+            &[port_id, u8::from(accepted)],
+        ),
     }
 }
 
@@ -256,43 +178,34 @@ fn crossfire_laid(command: CrossfireCommand) -> Laid
 {
     match command {
         CrossfireCommand::SetReceiverInBindMode => {
-            alone(SUB_COMMAND_ID_CROSSFIRE_SET_RECEIVER_IN_BIND_MODE)
+            laid(SUB_COMMAND_ID_CROSSFIRE_SET_RECEIVER_IN_BIND_MODE, &[])
         }
-        CrossfireCommand::CancelBindMode => alone(SUB_COMMAND_ID_CROSSFIRE_CANCEL_BIND_MODE),
-        CrossfireCommand::SetBindId => alone(SUB_COMMAND_ID_CROSSFIRE_SET_BIND_ID),
+        CrossfireCommand::CancelBindMode => laid(SUB_COMMAND_ID_CROSSFIRE_CANCEL_BIND_MODE, &[]),
+        CrossfireCommand::SetBindId => laid(SUB_COMMAND_ID_CROSSFIRE_SET_BIND_ID, &[]),
         CrossfireCommand::ModelSelection(model) => {
-            with_byte(SUB_COMMAND_ID_CROSSFIRE_MODEL_SELECTION, model)
+            laid(SUB_COMMAND_ID_CROSSFIRE_MODEL_SELECTION, &[model])
         }
         CrossfireCommand::CurrentModelSelection => {
-            alone(SUB_COMMAND_ID_CROSSFIRE_CURRENT_MODEL_SELECTION)
+            laid(SUB_COMMAND_ID_CROSSFIRE_CURRENT_MODEL_SELECTION, &[])
         }
         CrossfireCommand::ReplyCurrentModelSelection(model) => {
-            with_byte(
+            laid(
                 SUB_COMMAND_ID_CROSSFIRE_REPLY_CURRENT_MODEL_SELECTION,
-                model,
+                &[model],
             )
         }
-        CrossfireCommand::EnableRxTelemetry => alone(SUB_COMMAND_ID_CROSSFIRE_ENABLE_RX_TELEMETRY),
+        CrossfireCommand::EnableRxTelemetry => laid(
+            SUB_COMMAND_ID_CROSSFIRE_ENABLE_RX_TELEMETRY,
+            &[],
+        ),
         CrossfireCommand::DisableRxTelemetry => {
-            alone(SUB_COMMAND_ID_CROSSFIRE_DISABLE_RX_TELEMETRY)
+            laid(SUB_COMMAND_ID_CROSSFIRE_DISABLE_RX_TELEMETRY, &[])
         }
-        CrossfireCommand::FactoryReset => alone(SUB_COMMAND_ID_CROSSFIRE_FACTORY_RESET),
+        CrossfireCommand::FactoryReset => laid(SUB_COMMAND_ID_CROSSFIRE_FACTORY_RESET, &[]),
         CrossfireCommand::ResetToFactoryFirmware => {
-            alone(SUB_COMMAND_ID_CROSSFIRE_RESET_TO_FACTORY_FIRMWARE)
+            laid(SUB_COMMAND_ID_CROSSFIRE_RESET_TO_FACTORY_FIRMWARE, &[])
         }
     }
-}
-
-fn subscribe_laid(frame: u8, interval: u16) -> Laid
-    ensures { result ≡ laid 0x01 (frame ∷ bytes_of 2 interval) }
-{
-    let time = interval as u32;
-    with_three(
-        SUB_COMMAND_ID_FLOW_CONTROL_SUBSCRIBE,
-        frame,
-        digit(time, 0x100),
-        digit(time, 1),
-    )
 }
 
 fn flow_laid(command: FlowControlCommand) -> Laid
@@ -302,9 +215,15 @@ fn flow_laid(command: FlowControlCommand) -> Laid
         FlowControlCommand::Subscribe {
             frame_type,
             max_interval_time,
-        } => subscribe_laid(frame_type, max_interval_time),
+        } => {
+            let [high, low] = max_interval_time.to_be_bytes();
+            laid(
+                SUB_COMMAND_ID_FLOW_CONTROL_SUBSCRIBE,
+                &[frame_type, high, low],
+            )
+        }
         FlowControlCommand::Unsubscribe { frame_type } => {
-            with_byte(SUB_COMMAND_ID_FLOW_CONTROL_UNSUBSCRIBE, frame_type)
+            laid(SUB_COMMAND_ID_FLOW_CONTROL_UNSUBSCRIBE, &[frame_type])
         }
     }
 }
@@ -313,31 +232,30 @@ fn screen_laid(command: ScreenCommand) -> Laid
     ensures { result ≡ screen_laid command }
 {
     match command {
-        ScreenCommand::PopupMessageStart => alone(SUB_COMMAND_ID_SCREEN_POPUP_MESSAGE_START),
-        ScreenCommand::SelectionReturnValue { value, response } => {
-            let flag = codec::writer::bit_of(response);
-            with_three(SUB_COMMAND_ID_SCREEN_SELECTION_RETURN_VALUE, value, flag, 0)
-        }
+        ScreenCommand::PopupMessageStart => laid(SUB_COMMAND_ID_SCREEN_POPUP_MESSAGE_START, &[]),
+        ScreenCommand::SelectionReturnValue { value, response } => laid(
+            SUB_COMMAND_ID_SCREEN_SELECTION_RETURN_VALUE,
+            &[value, u8::from(response)],
+        ),
     }
 }
 
 fn ack_laid(ack: CommandAck) -> Laid
     ensures { result ≡ ack_laid ack }
 {
-    with_three(
+    laid(
         ACK_NO_SUB_COMMAND,
-        ack.command_id,
-        ack.sub_command_id,
-        ack.action,
+        &[ack.command_id, ack.sub_command_id, ack.action],
     )
 }
 
+#[tactic(auto, unfolding(crate::specs::Values::payload_laid))]
 pub(crate) fn payload_laid(payload: CommandPayload) -> Laid
     ensures { result ≡ payload_laid payload }
 {
     match payload {
         CommandPayload::Fc(command) => fc_laid(command),
-        CommandPayload::Osd(command) => with_byte(SUB_COMMAND_ID_OSD_SEND_BUTTONS, command.buttons),
+        CommandPayload::Osd(command) => laid(SUB_COMMAND_ID_OSD_SEND_BUTTONS, &[command.buttons]),
         CommandPayload::Vtx(command) => vtx_laid(command),
         CommandPayload::Led(command) => led_laid(command),
         CommandPayload::General(command) => general_laid(command),
@@ -348,29 +266,22 @@ pub(crate) fn payload_laid(payload: CommandPayload) -> Laid
     }
 }
 
-// Numbers in an image that has room for them: codec's readers answer too for bytes that are not there.
-fn word(high: u8, low: u8) -> u16
-    ensures { result ≡ number_of (high ∷ low ∷ []) }
-{
-    (high as u16) * 256 + low as u16
-}
-
-fn word_at(image: &[u8], at: usize) -> u16
-    requires { at + 2 ≤ length image.now }
+fn word_at(image: &[u8; RECORD_SIZE], at: usize) -> u16
+    requires { at + 2 ≤ 70 }
     ensures { result ≡ word_at image.now at }
 {
-    word(image[at], image[at + 1])
+    u16::from_be_bytes([image[at], image[at + 1]])
 }
 
-// The one number of four bytes is two words.
-fn long(high: u16, low: u16) -> u32
-    ensures { result ≡ high * 65536 + low }
+fn long_at(image: &[u8; RECORD_SIZE], at: usize) -> u32
+    requires { at + 4 ≤ 70 }
+    ensures { result ≡ long_at image.now at }
 {
-    (high as u32) * 65536 + low as u32
+    u32::from_be_bytes([image[at], image[at + 1], image[at + 2], image[at + 3]])
 }
 
-fn color_at(image: &[u8], at: usize) -> LedColor
-    requires { at + 4 ≤ length image.now }
+fn color_at(image: &[u8; RECORD_SIZE], at: usize) -> LedColor
+    requires { at + 4 ≤ 70 }
     ensures { result ≡ color_at image.now at }
 {
     LedColor {
@@ -380,8 +291,7 @@ fn color_at(image: &[u8], at: usize) -> LedColor
     }
 }
 
-fn fc_at(image: &[u8]) -> FcCommand
-    requires { 14 ≤ length image.now }
+fn fc_at(image: &[u8; RECORD_SIZE]) -> FcCommand
     ensures { result ≡ fc_at image.now }
 {
     match image[RECORD_SUB_COMMAND] {
@@ -390,8 +300,7 @@ fn fc_at(image: &[u8]) -> FcCommand
     }
 }
 
-fn vtx_at(image: &[u8]) -> VtxCommand
-    requires { 14 ≤ length image.now }
+fn vtx_at(image: &[u8; RECORD_SIZE]) -> VtxCommand
     ensures { result ≡ vtx_at image.now }
 {
     match image[RECORD_SUB_COMMAND] {
@@ -407,8 +316,7 @@ fn vtx_at(image: &[u8]) -> VtxCommand
     }
 }
 
-fn led_at(image: &[u8]) -> LedCommand
-    requires { 14 ≤ length image.now }
+fn led_at(image: &[u8; RECORD_SIZE]) -> LedCommand
     ensures { result ≡ led_at image.now }
 {
     match image[RECORD_SUB_COMMAND] {
@@ -434,17 +342,13 @@ fn led_at(image: &[u8]) -> LedCommand
     }
 }
 
-fn general_at(image: &[u8]) -> GeneralCommand
-    requires { 14 ≤ length image.now }
+fn general_at(image: &[u8; RECORD_SIZE]) -> GeneralCommand
     ensures { result ≡ general_at image.now }
 {
     match image[RECORD_SUB_COMMAND] {
         SUB_COMMAND_ID_GENERAL_SPEED_PROPOSAL => GeneralCommand::SpeedProposal {
             port_id: image[RECORD_VALUES],
-            proposed_baudrate: long(
-                word_at(image, SECOND_VALUE),
-                word_at(image, SECOND_VALUE + 2),
-            ),
+            proposed_baudrate: long_at(image, SECOND_VALUE),
         },
         _ => GeneralCommand::SpeedProposalResponse {
             port_id: image[RECORD_VALUES],
@@ -453,8 +357,7 @@ fn general_at(image: &[u8]) -> GeneralCommand
     }
 }
 
-fn crossfire_at(image: &[u8]) -> CrossfireCommand
-    requires { 14 ≤ length image.now }
+fn crossfire_at(image: &[u8; RECORD_SIZE]) -> CrossfireCommand
     ensures { result ≡ crossfire_at image.now }
 {
     match image[RECORD_SUB_COMMAND] {
@@ -475,8 +378,7 @@ fn crossfire_at(image: &[u8]) -> CrossfireCommand
     }
 }
 
-fn flow_at(image: &[u8]) -> FlowControlCommand
-    requires { 14 ≤ length image.now }
+fn flow_at(image: &[u8; RECORD_SIZE]) -> FlowControlCommand
     ensures { result ≡ flow_at image.now }
 {
     match image[RECORD_SUB_COMMAND] {
@@ -490,8 +392,7 @@ fn flow_at(image: &[u8]) -> FlowControlCommand
     }
 }
 
-fn screen_at(image: &[u8]) -> ScreenCommand
-    requires { 14 ≤ length image.now }
+fn screen_at(image: &[u8; RECORD_SIZE]) -> ScreenCommand
     ensures { result ≡ screen_at image.now }
 {
     match image[RECORD_SUB_COMMAND] {
@@ -503,8 +404,7 @@ fn screen_at(image: &[u8]) -> ScreenCommand
     }
 }
 
-fn ack_at(image: &[u8]) -> CommandAck
-    requires { 14 ≤ length image.now }
+fn ack_at(image: &[u8; RECORD_SIZE]) -> CommandAck
     ensures { result ≡ ack_at image.now }
 {
     CommandAck {
@@ -515,8 +415,8 @@ fn ack_at(image: &[u8]) -> CommandAck
 }
 
 // What stands in an image; of an unknown id or sub-command the last one, whose image is another.
-pub(crate) fn payload_at(image: &[u8]) -> CommandPayload
-    requires { 14 ≤ length image.now }
+#[tactic(auto, unfolding(crate::specs::Values::payload_at))]
+pub(crate) fn payload_at(image: &[u8; RECORD_SIZE]) -> CommandPayload
     ensures { result ≡ payload_at image.now }
 {
     match image[RECORD_ID] {

@@ -6,7 +6,6 @@ ghost use Rattle.codec.specs.Told.{told_written};
 ghost use Rattle.images.specs.Word.{word, answer_word};
 
 use codec::refusal::Refusal;
-use codec::writer::Written;
 
 // Accepted, and nothing to count.
 pub const ACCEPTED: u32 = 0;
@@ -15,15 +14,15 @@ pub const ACCEPTED: u32 = 0;
 pub fn refused(why: Refusal) -> u32
     ensures { result ≡ word (refusal_number why) 0 0 }
 {
-    codec::refusal::number(why) as u32
+    u8::from(why) as u32
 }
 
 // What writing answers: how many bytes, or a refusal.
-pub fn written(answer: Written) -> u32
+pub fn written(answer: Result<usize, Refusal>) -> u32
     ensures { result ≡ answer_word (told_written answer) }
 {
     match answer {
-        Written::Count(count) => (count % 256) as u32 * 256,
-        Written::Refused(why) => refused(why),
+        Ok(count) => (count % 256) as u32 * 256,
+        Err(why) => refused(why),
     }
 }

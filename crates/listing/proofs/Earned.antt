@@ -1,4 +1,5 @@
 -- No count that is not earned: the records consumed fix the listing's. Assumes nothing.
+use Rattle.std.specs.Prelude.{Option, Some, Result, Ok}
 use Prim.Native.Nat.{ℕ, zero, suc, ◌+◌, ◌-◌, ◌<◌}
 use mathlib.Core.Bool.{Bool, true, false}
 use mathlib.Core.List.{List, [], ◌∷◌}
@@ -15,18 +16,18 @@ use Rattle.crc.specs.Check.{Bytes}
 use Rattle.codec.specs.Pick.{pick}
 use Rattle.codec.specs.Sheet.{Answer, got, refused}
 use Rattle.codec.specs.Writing.{counted}
+use Rattle.codec.specs.declared.refusal.Refusal.{Refusal}
 use Rattle.families.specs.Payload.{family_id}
 use Rattle.commands.specs.Reading.{read_command}
 use Rattle.commands.specs.Writing.{payload_of, stop_writing}
 use Rattle.commands.specs.declared.DirectCommands.{DirectCommands}
 use Rattle.commands.proofs.Forth.{read_fits}
 use Rattle.listing.specs.Listing.{line_of, lines_from, listing}
-use Rattle.listing.specs.Step.{Stepped, told_listed, in_limits, opened, go_on, step_of}
+use Rattle.listing.specs.Step.{Stepped, lines_of, told_step, told_next, in_limits, opened, go_on, step_of}
 use Rattle.listing.specs.declared.line.Line.{Line}
 use Rattle.listing.specs.declared.line.Line.TheVariants.{Read, Refused, Cut, End}
 use Rattle.listing.specs.declared.Listing.{Listing}
-use Rattle.listing.specs.declared.Listed.{Listed}
-use Rattle.listing.specs.declared.Listed.TheVariants.{Line as Found}
+use Rattle.listing.specs.declared.Step.{Step}
 use Rattle.listing.proofs.StepLaws.{goes_none, goes-line}
 use Rattle.listing.proofs.Listing.next.Reads as next
 use Rattle.listing.proofs.Listing.next.Kinds as next-kinds
@@ -95,16 +96,19 @@ step_counts s i at = count_in_lem s.count (step_of s i at) (step_is s i at)
 -- of the contract: whatever it allows has earned its count
 pub next-earned : (κs : Lfts 1) (a : Dens κs next-kinds.ps) (x : (res_t next-kinds.r κs).Denot)
     (s : AtExit (ended_of 1 next-kinds.ps next-kinds.r) κs)
-    → next.Post κs a x s → x.state.count ≡ a.0.count + earned (told_listed x.listed)
+    → next.Post κs a x s → (told_next a.0 a.1.1.0 x).state.count ≡ a.0.count + earned (told_next a.0 a.1.1.0 x).says
 next-earned κs a x s p = subst (λ (y : Stepped). y.state.count ≡ a.0.count + earned y.says) (sym p)
     (step_counts a.0 a.1.0.now a.1.1.0)
 
 -- so a step that gives a line and leaves the count as it was is ruled out
 pub not_uncounted : (κs : Lfts 1) (a : Dens κs next-kinds.ps) (x : (res_t next-kinds.r κs).Denot)
-    (s : AtExit (ended_of 1 next-kinds.ps next-kinds.r) κs) (l : Line)
-    → next.Post κs a x s → x.listed ≡ Found l → x.state.count ≡ a.0.count → ⊥
-not_uncounted κs a x s l p e f =
-    let g : x.state.count ≡ a.0.count + 1 = next-earned κs a x s p ∙ ap (λ (y : Listed). a.0.count + earned (told_listed y)) e in
+    (s : AtExit (ended_of 1 next-kinds.ps next-kinds.r) κs) (y : Step) (l : Line)
+    → next.Post κs a x s → x ≡ Ok y → y.line ≡ Some l → y.state.count ≡ a.0.count → ⊥
+not_uncounted κs a x s y l p h e f =
+    let k : (told_step y).state.count ≡ a.0.count + earned (told_step y).says =
+    subst (λ (z : Result Step Refusal). (told_next a.0 a.1.1.0 z).state.count ≡ a.0.count + earned (told_next a.0 a.1.1.0 z).says) h
+    (next-earned κs a x s p) in
+    let g : y.state.count ≡ a.0.count + 1 = k ∙ ap (λ (o : Option Line). a.0.count + earned (got (lines_of o))) e in
     omega arith
 
 -- ---- "The last number in a read line is the written length": the count that writing gives

@@ -1,5 +1,4 @@
 pub mod TextLaws
-pub mod Lines
 pub mod StepLaws
 pub mod Chunks
 pub mod Parts

@@ -1,5 +1,6 @@
 -- Any two answers that a public function's contract allows coincide, and so do the bytes that it leaves in a lent slice. `Post` is
 -- the contract as the check reads it from the source, and no copy of it. Assumes nothing.
+use Rattle.std.specs.Prelude.{Option, Some, None, Result, Ok, Err}
 use Prim.Native.Nat.{ℕ}
 use mathlib.Core.Bool.{Bool, true, false}
 use mathlib.Core.List.{List, [], ◌∷◌}
@@ -10,14 +11,14 @@ use denote.Triple.Clauses.{AtExit}
 use Rattle.codec.specs.Sheet.{Answer, got, refused}
 use Rattle.codec.proofs.Writes.{refusal_of, refusal_back, written_fixed}
 use Rattle.listing.specs.Parts.{told_stop, Filled, Fills}
-use Rattle.listing.specs.Step.{Stepped, told_listed, told_step}
+use Rattle.codec.specs.Refusals.{told}
+use Rattle.codec.specs.declared.refusal.Refusal.{Refusal}
+use Rattle.listing.specs.Step.{Stepped, told_step, told_next}
 use Rattle.listing.specs.declared.line.Line.{Line}
 use Rattle.listing.specs.declared.Listing.{Listing}
-use Rattle.listing.specs.declared.Listed.{Listed}
-use Rattle.listing.specs.declared.Listed.TheVariants.{Line as Found, Nothing, Refused}
 use Rattle.listing.specs.declared.Step.{Step}
 use Rattle.listing.specs.declared.Stop.{Stop}
-use Rattle.listing.specs.declared.Stop.TheVariants.{Used, Full, Refused as RefusedPart}
+use Rattle.listing.specs.declared.Stop.TheVariants.{Used, Full}
 use Rattle.listing.specs.declared.Part.{Part}
 use Rattle.listing.proofs.Listing.new.Reads as new
 use Rattle.listing.proofs.Listing.new.Kinds as new-kinds
@@ -31,39 +32,53 @@ use Rattle.listing.proofs.line.render.Reads as render
 use Rattle.listing.proofs.line.render.Kinds as render-kinds
 
 -- what is told fixes the answer
-listed_told : Answer (List Line) → Listed
-listed_told (got []) = Nothing
-listed_told (got (l ∷ ls)) = Found l
-listed_told (refused n p) = Refused (refusal_of n)
+abbrev told_back : Listing → ℕ → Answer (List Line) → Result Step Refusal
+told_back s at (got []) = Ok (record { state = s; at = at; line = None })
+told_back s at (got (l ∷ ls)) = Ok (record { state = s; at = at; line = Some l })
+told_back s at (refused n p) = Err (refusal_of n)
 
-listed-told : (x : Listed) → listed_told (told_listed x) ≡ x
-unfolding listed_told
-listed-told (Found l) = refl
-listed-told Nothing = refl
-listed-told (Refused r) = ap Refused (refusal_back r)
+abbrev back_of : Stepped → Result Step Refusal
+back_of y = told_back y.state y.at y.says
 
-listed_fixed : (x y : Listed) → told_listed x ≡ told_listed y → x ≡ y
-listed_fixed x y e = sym (listed-told x) ∙ ap listed_told e ∙ listed-told y
+step-told : (s : Listing) (at : ℕ) (x : Result Step Refusal) → back_of (told_next s at x) ≡ x
+step-told s at (Ok x) = by x.line refl
+  where
+    by : (o : Option Line) → x.line ≡ o → back_of (told_step x) ≡ Ok x
+    by None e = rw e refl
+    by (Some l) e = rw e refl
+step-told s at (Err r) = ap Err (refusal_back r)
 
-step_fixed : (x y : Step) → told_step x ≡ told_step y → x ≡ y
-step_fixed x y e =
-    ap (λ (s : Listing). record { state = s; at = x.at; listed = x.listed }) (ap (λ (z : Stepped). z.state) e)
-    ∙ ap (λ (n : ℕ). record { state = y.state; at = n; listed = x.listed }) (ap (λ (z : Stepped). z.at) e)
-    ∙ ap (λ (l : Listed). record { state = y.state; at = y.at; listed = l })
-    (listed_fixed x.listed y.listed (ap (λ (z : Stepped). z.says) e))
+step_fixed : (s : Listing) (at : ℕ) (x y : Result Step Refusal) → told_next s at x ≡ told_next s at y → x ≡ y
+step_fixed s at x y e = sym (step-told s at x) ∙ ap back_of e ∙ step-told s at y
 
-stop_told : Answer Bool → Stop
-stop_told (got true) = Used
-stop_told (got false) = Full
-stop_told (refused n p) = RefusedPart (refusal_of n)
+line_back : Answer (List Line) → Result Line Refusal
+line_back (got []) = Err (refusal_of 0)
+line_back (got (l ∷ ls)) = Ok l
+line_back (refused n p) = Err (refusal_of n)
 
-stop-told : (x : Stop) → stop_told (told_stop x) ≡ x
+abbrev told_line : Result Line Refusal → Answer (List Line)
+told_line x = told (λ (l : Line). l ∷ []) x
+
+line-told : (x : Result Line Refusal) → line_back (told_line x) ≡ x
+unfolding line_back
+line-told (Ok l) = refl
+line-told (Err r) = ap Err (refusal_back r)
+
+line_fixed : (x y : Result Line Refusal) → told_line x ≡ told_line y → x ≡ y
+line_fixed x y e = sym (line-told x) ∙ ap line_back e ∙ line-told y
+
+stop_told : Answer Bool → Result Stop Refusal
+stop_told (got true) = Ok Used
+stop_told (got false) = Ok Full
+stop_told (refused n p) = Err (refusal_of n)
+
+stop-told : (x : Result Stop Refusal) → stop_told (told_stop x) ≡ x
 unfolding stop_told
-stop-told Used = refl
-stop-told Full = refl
-stop-told (RefusedPart r) = ap RefusedPart (refusal_back r)
+stop-told (Ok Used) = refl
+stop-told (Ok Full) = refl
+stop-told (Err r) = ap Err (refusal_back r)
 
-stop_fixed : (x y : Stop) → told_stop x ≡ told_stop y → x ≡ y
+stop_fixed : (x y : Result Stop Refusal) → told_stop x ≡ told_stop y → x ≡ y
 stop_fixed x y e = sym (stop-told x) ∙ ap stop_told e ∙ stop-told y
 
 fills_fixed : (f : Filled) (x y : Part) (t p q : List ℕ) → Fills f x t p → Fills f y t q → (x ≡ y) × (p ≡ q)
@@ -71,7 +86,7 @@ fills_fixed f x y t p q g h = (
   ap (λ (s : Listing). record { state = s; at = x.at; len = x.len; stop = x.stop }) (g.state ∙ sym h.state)
       ∙ ap (λ (a : ℕ). record { state = y.state; at = a; len = x.len; stop = x.stop }) (g.place ∙ sym h.place)
       ∙ ap (λ (n : ℕ). record { state = y.state; at = y.at; len = n; stop = x.stop }) (g.count ∙ sym h.count)
-      ∙ ap (λ (u : Stop). record { state = y.state; at = y.at; len = y.len; stop = u })
+      ∙ ap (λ (u : Result Stop Refusal). record { state = y.state; at = y.at; len = y.len; stop = u })
       (stop_fixed x.stop y.stop (g.stop ∙ sym h.stop)),
   g.leaves ∙ sym h.leaves,
 )
@@ -84,7 +99,7 @@ new_one κs a x y s t p q = p ∙ sym q
 pub next_one : (κs : Lfts 1) (a : Dens κs next-kinds.ps) (x y : (res_t next-kinds.r κs).Denot)
     (s t : AtExit (ended_of 1 next-kinds.ps next-kinds.r) κs)
     → next.Post κs a x s → next.Post κs a y t → x ≡ y
-next_one κs a x y s t p q = step_fixed x y (p ∙ sym q)
+next_one κs a x y s t p q = step_fixed a.0 a.1.1.0 x y (p ∙ sym q)
 
 pub fill_one : (κs : Lfts 2) (a : Dens κs fill-kinds.ps) (x y : (res_t fill-kinds.r κs).Denot)
     (s t : AtExit (ended_of 2 fill-kinds.ps fill-kinds.r) κs)
@@ -94,7 +109,7 @@ fill_one κs a x y s t p q = fills_fixed _ x y _ _ _ p.0 q.0
 pub finish_one : (κs : Lfts 0) (a : Dens κs finish-kinds.ps) (x y : (res_t finish-kinds.r κs).Denot)
     (s t : AtExit (ended_of 0 finish-kinds.ps finish-kinds.r) κs)
     → finish.Post κs a x s → finish.Post κs a y t → x ≡ y
-finish_one κs a x y s t p q = listed_fixed x y (p ∙ sym q)
+finish_one κs a x y s t p q = line_fixed x y (p ∙ sym q)
 
 pub render_one : (κs : Lfts 1) (a : Dens κs render-kinds.ps) (x y : (res_t render-kinds.r κs).Denot)
     (s t : AtExit (ended_of 1 render-kinds.ps render-kinds.r) κs)

@@ -1,4 +1,5 @@
 -- A chunk's lines as text, in parts. Assumes nothing.
+use Rattle.std.specs.Prelude.{Option, Some, None, Result, Ok, Err}
 use Prim.Native.Nat.{ℕ, zero, suc, ◌+◌, ◌-◌, ◌<◌, ◌≤◌}
 use mathlib.Core.Bool.{Bool, true, false}
 use mathlib.Core.List.{List, [], ◌∷◌, ◌++◌, append_assoc, append-nil}
@@ -15,21 +16,18 @@ use Rattle.codec.specs.declared.refusal.Refusal.{Refusal}
 use Rattle.codec.specs.Refusals.{refusal_number, value_in}
 use Rattle.codec.specs.Writing.{stop_room}
 use Rattle.codec.specs.Told.{WritesAll}
-use Rattle.codec.specs.declared.writer.Written.{Written}
-use Rattle.codec.specs.declared.writer.Written.TheVariants.{Count, Refused as NotWritten}
 use Rattle.codec.proofs.Loops.{sets_append}
 use Rattle.text.proofs.Behind.{behind_none, behind-some}
 use Rattle.listing.specs.Listing.{listing}
 use Rattle.listing.specs.Text.{longest_text, text_of, PutsText}
-use Rattle.listing.specs.Step.{most_records, Stepped, told_listed, told_step, in_limits, opened, go_on, step_of, closing}
+use Rattle.listing.specs.Step.{most_records, Stepped, lines_of, told_step, told_next, in_limits, opened, go_on, step_of, closing}
 use Rattle.listing.specs.Chunks.{Fed, fed, lines_in, state_in, before, steps, chunk, in_chunks, joined, after_chunks, NoneEmpty, After}
 use Rattle.listing.specs.Parts.{told_stop, Filled, nothing, behind, fill_from, filled, Fills, FillsFrom, Moves, parts, text_of_parts, text_of_lines, text_of_chunk, text_of_chunks, text_of_closing}
 use Rattle.listing.specs.declared.line.Line.{Line}
 use Rattle.listing.specs.declared.line.Line.TheVariants.{Cut, End}
 use Rattle.listing.specs.declared.Listing.{Listing}
-use Rattle.listing.specs.declared.Listed.TheVariants.{Line as Found, Nothing, Refused}
 use Rattle.listing.specs.declared.Step.{Step}
-use Rattle.listing.specs.declared.Stop.TheVariants.{Used, Full, Refused as RefusedPart}
+use Rattle.listing.specs.declared.Stop.TheVariants.{Used, Full}
 use Rattle.listing.specs.declared.Part.{Part}
 use Rattle.listing.proofs.StepLaws.{limit_count, limit_held, goes_none, goes-line, step_none, step-opens, step-goes, step-refused, closing_end, closing_cut, closing-refused, take_put}
 use Rattle.listing.proofs.Chunks.{any_chunks}
@@ -131,16 +129,7 @@ some_more : (m n : ℕ) → n < m → (f : ℕ) × (m ≡ suc f)
 some_more zero n h = absurd (omega arith)
 some_more (suc f) n h = (f, refl)
 
-module _ {s₀ s : Listing} {i t₀ t : List ℕ} {at j n : ℕ} (x : Step) (g : Filling s₀ i at t₀ s j n t) (e : told_step x ≡ step_of s i j) where
-  says : told_listed x.listed ≡ (step_of s i j).says
-  says = ap (λ (y : Stepped). y.says) e
-
-  state_is : x.state ≡ (step_of s i j).state
-  state_is = ap (λ (y : Stepped). y.state) e
-
-  at_is : x.at ≡ (step_of s i j).at
-  at_is = ap (λ (y : Stepped). y.at) e
-
+module _ {s₀ s : Listing} {i t₀ t : List ℕ} {at j n : ℕ} (g : Filling s₀ i at t₀ s j n t) where
   one : (f : ℕ) × (g.most ≡ suc f)
   one = some_more g.most (length t₀ - n) g.left
 
@@ -166,60 +155,71 @@ module _ {s₀ s : Listing} {i t₀ t : List ℕ} {at j n : ℕ} (x : Step) (g :
   abbrev pub Answers : Part → List ℕ → Type 0
   Answers r t' = Fills (filled s₀ i at (length t₀)) r t₀ t' × Moves at i r t₀
 
-  pub filling_used : x.listed ≡ Nothing → Answers (record { state = x.state; at = x.at; len = n; stop = Used }) t
-  filling_used h = (
-    ends _ _ t (fill_used one.0 s i j (length t₀ - n) (sym says ∙ ap told_listed h)) refl state_is at_is refl refl refl,
-    (λ l e. let z : ◌≡◌ {A = ℕ} 0 1 = cc in absurd (omega arith)),
+  -- a state beyond its limits
+  pub filling_refused : (r : Refusal) → told_next s j (Err r) ≡ step_of s i j
+      → Answers (record { state = s; at = j; len = n; stop = Err r }) t
+  filling_refused r e = (
+    ends _ _ t (fill_refused one.0 s i j (length t₀ - n) (refusal_number r) 0 (sym (ap (λ (y : Stepped). y.says) e)))
+        refl (ap (λ (y : Stepped). y.state) e) (ap (λ (y : Stepped). y.at) e) refl refl refl,
+    (λ l h. let z : ◌≡◌ {A = ℕ} 0 1 = cc in absurd (omega arith)),
   )
 
-  pub filling_refused : (r : Refusal) → x.listed ≡ Refused r
-      → Answers (record { state = x.state; at = x.at; len = n; stop = RefusedPart r }) t
-  filling_refused r h = (
-    ends _ _ t (fill_refused one.0 s i j (length t₀ - n) (refusal_number r) 0 (sym says ∙ ap told_listed h))
-        refl state_is at_is refl refl refl,
-    (λ l e. let z : ◌≡◌ {A = ℕ} 0 1 = cc in absurd (omega arith)),
-  )
+  module _ (x : Step) (e : told_step x ≡ step_of s i j) where
+    says : got (lines_of x.line) ≡ (step_of s i j).says
+    says = ap (λ (y : Stepped). y.says) e
 
-  module _ {l : Line} {k : ℕ} {t' : List ℕ} (h : x.listed ≡ Found l) (p : PutsText l n k t t') where
-    line_is : (step_of s i j).says ≡ got (l ∷ [])
-    line_is = sym says ∙ ap told_listed h
+    state_is : x.state ≡ (step_of s i j).state
+    state_is = ap (λ (y : Stepped). y.state) e
 
-    -- a line without room: the part ends before it
-    pub filling_full : k ≡ 0 → Answers (record { state = s; at = j; len = n; stop = Full }) t'
-    filling_full z =
-        let q = behind_none p.put (text-some l) z in (
-          ends _ _ t' (fill_full one.0 s i j (length t₀ - n) l line_is (omega (arith, q.0, g.same, g.room)))
-              refl refl refl refl refl q.1,
-          (λ longest e. g.moved (omega (arith, q.0, g.same, p.longest))),
-        )
+    at_is : x.at ≡ (step_of s i j).at
+    at_is = ap (λ (y : Stepped). y.at) e
 
-    pub filling_turn : (k ≡ 0 → ⊥) → Filling s₀ i at t₀ x.state x.at (n + k) t'
-    filling_turn z =
-        let q = behind-some p.put (text-some l) z in
-        let m = step_moves s i j l line_is in
-        let u : length t₀ - n - length (text_of l) ≡ length t₀ - (n + k) = omega (arith, q.0) in
-        record {
-          put = g.put ++ text_of l;
-          most = one.0;
-          size = length-append g.put (text_of l) ∙ omega (arith, g.size, q.0);
-          room = omega (arith, q.1.0, g.same);
-          left = omega (arith, one.1, g.left, q.0, q.1.0, g.same, text-some l);
-          leaves =
-              q.1.1
-              ∙ ap (λ (y : List ℕ). sets y n (text_of l)) g.leaves
-              ∙ ap (λ (a : ℕ). sets (sets t₀ 0 g.put) a (text_of l)) (let c : n ≡ 0 + length g.put = omega (arith, g.size) in c)
-              ∙ sym (sets_append g.put (text_of l) t₀ 0);
-          same = ap length q.1.1 ∙ length-sets t n (text_of l) ∙ g.same;
-          goes =
-              whole _ (fill_line one.0 s i j (length t₀ - n) l line_is (omega (arith, q.0, q.1.0, g.same)))
-              ∙ behind-behind g.put (text_of l) _
-              ∙ ap (λ (r : ℕ). behind (g.put ++ text_of l) (fill_from one.0 (step_of s i j).state i (step_of s i j).at r)) u
-              ∙ ap (λ (y : Listing). behind (g.put ++ text_of l)
-              (fill_from one.0 y i (step_of s i j).at (length t₀ - (n + k)))) (sym state_is)
-              ∙ ap (λ (a : ℕ). behind (g.put ++ text_of l) (fill_from one.0 x.state i a (length t₀ - (n + k)))) (sym at_is);
-          onward = omega (arith, m.0, at_is, g.onward);
-          moved = λ y. (omega (arith, m.0, at_is, g.onward), omega (arith, m.1, at_is));
-        }
+    pub filling_used : x.line ≡ None → Answers (record { state = x.state; at = x.at; len = n; stop = Ok Used }) t
+    filling_used h = (
+      ends _ _ t (fill_used one.0 s i j (length t₀ - n) (sym says ∙ ap (λ (o : Option Line). got (lines_of o)) h)) refl state_is at_is refl refl refl,
+      (λ l e. let z : ◌≡◌ {A = ℕ} 0 1 = cc in absurd (omega arith)),
+    )
+
+    module _ {l : Line} {k : ℕ} {t' : List ℕ} (h : x.line ≡ Some l) (p : PutsText l n k t t') where
+      line_is : (step_of s i j).says ≡ got (l ∷ [])
+      line_is = sym says ∙ ap (λ (o : Option Line). got (lines_of o)) h
+
+      -- a line without room: the part ends before it
+      pub filling_full : k ≡ 0 → Answers (record { state = s; at = j; len = n; stop = Ok Full }) t'
+      filling_full z =
+          let q = behind_none p.put (text-some l) z in (
+            ends _ _ t' (fill_full one.0 s i j (length t₀ - n) l line_is (omega (arith, q.0, g.same, g.room)))
+                refl refl refl refl refl q.1,
+            (λ longest e. g.moved (omega (arith, q.0, g.same, p.longest))),
+          )
+
+      pub filling_turn : (k ≡ 0 → ⊥) → Filling s₀ i at t₀ x.state x.at (n + k) t'
+      filling_turn z =
+          let q = behind-some p.put (text-some l) z in
+          let m = step_moves s i j l line_is in
+          let u : length t₀ - n - length (text_of l) ≡ length t₀ - (n + k) = omega (arith, q.0) in
+          record {
+            put = g.put ++ text_of l;
+            most = one.0;
+            size = length-append g.put (text_of l) ∙ omega (arith, g.size, q.0);
+            room = omega (arith, q.1.0, g.same);
+            left = omega (arith, one.1, g.left, q.0, q.1.0, g.same, text-some l);
+            leaves =
+                q.1.1
+                ∙ ap (λ (y : List ℕ). sets y n (text_of l)) g.leaves
+                ∙ ap (λ (a : ℕ). sets (sets t₀ 0 g.put) a (text_of l)) (let c : n ≡ 0 + length g.put = omega (arith, g.size) in c)
+                ∙ sym (sets_append g.put (text_of l) t₀ 0);
+            same = ap length q.1.1 ∙ length-sets t n (text_of l) ∙ g.same;
+            goes =
+                whole _ (fill_line one.0 s i j (length t₀ - n) l line_is (omega (arith, q.0, q.1.0, g.same)))
+                ∙ behind-behind g.put (text_of l) _
+                ∙ ap (λ (r : ℕ). behind (g.put ++ text_of l) (fill_from one.0 (step_of s i j).state i (step_of s i j).at r)) u
+                ∙ ap (λ (y : Listing). behind (g.put ++ text_of l)
+                (fill_from one.0 y i (step_of s i j).at (length t₀ - (n + k)))) (sym state_is)
+                ∙ ap (λ (a : ℕ). behind (g.put ++ text_of l) (fill_from one.0 x.state i a (length t₀ - (n + k)))) (sym at_is);
+            onward = omega (arith, m.0, at_is, g.onward);
+            moved = λ y. (omega (arith, m.0, at_is, g.onward), omega (arith, m.1, at_is));
+          }
 
 -- ---- a part's text has room
 fill_room_by : (f : ℕ) (s : Listing) (i : List ℕ) (at room : ℕ)
@@ -443,14 +443,14 @@ closing-longest s l h = by (in_limits s) (eqb s.wanted 0) refl refl
         let i : Cut s.count ≡ l = cc in
         rw (← i) (longest (Cut s.count) (omega (arith, limit_count s e)))
 
-module _ (s : Listing) (l : Line) (x : Written) (t t' : List ℕ) (h : closing s ≡ got (l ∷ [])) (w : WritesAll (text_of l) x t t') where
-  pub closing_not_refused : (r : Refusal) → longest_text ≤ length t → x ≡ NotWritten r → ⊥
+module _ (s : Listing) (l : Line) (x : Result ℕ Refusal) (t t' : List ℕ) (h : closing s ≡ got (l ∷ [])) (w : WritesAll (text_of l) x t t') where
+  pub closing_not_refused : (r : Refusal) → longest_text ≤ length t → x ≡ Err r → ⊥
   closing_not_refused r m e =
       let f : stop_room (length t) (length (text_of l)) ≡ 0 =
       rw (le-ltb (length t) (length (text_of l)) (omega (arith, closing-longest s l h))) in
       out_some r (length (text_of l)) (rw (f, e) at w.0)
 
-  pub closing-text : (n : ℕ) → longest_text ≤ length t → x ≡ Count n → (n ≤ length t') × (take n t' ≡ text_of_closing s)
+  pub closing-text : (n : ℕ) → longest_text ≤ length t → x ≡ Ok n → (n ≤ length t') × (take n t' ≡ text_of_closing s)
   closing-text n m e =
       let f : stop_room (length t) (length (text_of l)) ≡ 0 =
       rw (le-ltb (length t) (length (text_of l)) (omega (arith, closing-longest s l h))) in

@@ -1,5 +1,6 @@
 -- Wrong answers that the contracts of the public functions rule out: the definition that the contract names, worked out for an input
 -- where the wrong answer would be another. That no other answer is allowed there is in OneAnswer.antt. Assumes nothing.
+use Rattle.std.specs.Prelude.{Err}
 use Prim.Native.Nat.{ℕ}
 use mathlib.Core.List.{[], ◌∷◌}
 use mathlib.Core.Bool.{true, false}
@@ -8,7 +9,6 @@ use lib.ListN.{replicate}
 use Rattle.codec.specs.Sheet.{got, refused}
 use Rattle.codec.specs.Told.{WritesAll}
 use Rattle.codec.specs.declared.refusal.Refusal.TheVariants.{BufferOverflow}
-use Rattle.codec.specs.declared.writer.Written.TheVariants.{Refused as NotWritten}
 use Rattle.listing.specs.Text.{text_of}
 use Rattle.listing.specs.Parts.{filled, nothing, behind}
 use Rattle.listing.specs.Step.{opened, step_of, closing}
@@ -66,5 +66,5 @@ finish_beyond = refl
 
 -- ---- line::render (and must-fail/record_for_number, no_space)
 -- no line is half written: "end 0" and its end are 6 bytes
-pub render_no_room : WritesAll (text_of (End 0)) (NotWritten BufferOverflow) (replicate 5 7) (replicate 5 7)
+pub render_no_room : WritesAll (text_of (End 0)) (Err BufferOverflow) (replicate 5 7) (replicate 5 7)
 render_no_room = (refl, refl)

@@ -5,8 +5,8 @@ use mathlib.Core.List.{List, [], ◌∷◌, ◌++◌}
 use mathlib.Core.Path.{◌≡◌, refl, ap, sym, ◌∙◌}
 use native.Mathlib.Omega.{arith}
 use borrow.Author.Tests.{lt-ltb, le-ltb, le-leb, lt-leb, eq-eqb, ne_eqb, ltb-true, leb-false}
-use lib.ListN.{length, take, drop, get_or, length-append, length-drop}
-use lib.Seq.{sets, sets-eq, take_all, take_at, length-take-le}
+use lib.ListN.{length, take, drop, get_or, length-append}
+use lib.Seq.{sets, sets-eq, take_at, length-take-le}
 use lib.Dec.{ltb, leb, eqb}
 use Rattle.codec.specs.Pick.{pick}
 use Rattle.codec.specs.Sheet.{Answer, got, refused}
@@ -18,7 +18,7 @@ use Rattle.commands.proofs.Known.{read_long}
 use Rattle.listing.specs.Listing.{line_of}
 use Rattle.listing.specs.Step.{most_records, longest_record, most_kept, Stepped, in_limits, opened, kept_with, line_with, go_on, step_of, closing}
 use Rattle.listing.specs.declared.line.Line.{Line}
-use Rattle.listing.specs.declared.line.Line.TheVariants.{Cut, End, Refused as LineRefused}
+use Rattle.listing.specs.declared.line.Line.TheVariants.{Cut, End}
 use Rattle.listing.specs.declared.Listing.{Listing}
 
 pub picked : {A : Type 0} (b : Bool) (x y : A) → b ≡ true → pick b x y ≡ x
@@ -79,19 +79,7 @@ pub goes-line : (s : Listing) (i : List ℕ) (at : ℕ) → s.wanted - s.held �
     }
 goes-line s i at h = passed (ltb (length i - at) (s.wanted - s.held)) _ _ (le-ltb (length i - at) (s.wanted - s.held) h)
 
--- what the code makes of the two: the chunk's bytes from `at` on, or those up to `end`
-pub made_none_lem : (s₀ s t : Listing) (i : List ℕ) (at : ℕ) → s ≡ s₀ → t ≡ kept_with s (take (length i - at) (drop at i))
-    → length i - at < s₀.wanted - s₀.held
-    → ◌≡◌ {A = Stepped} (record { state = t; at = length i; says = got [] }) (go_on s₀ i at)
-made_none_lem s₀ s t i at e f l =
-    let rest : take (length i - at) (drop at i) ≡ drop at i =
-    take_all (length i - at) (drop at i) (rw length-drop (omega arith)) in
-    let k : t ≡ kept_with s₀ (drop at i) =
-    f
-    ∙ ap (λ (x : Listing). kept_with x (take (length i - at) (drop at i))) e
-    ∙ ap (λ (p : List ℕ). kept_with s₀ p) rest in
-    ap (λ (x : Listing). record { state = x; at = length i; says = got [] }) k ∙ sym (goes_none s₀ i at l)
-
+-- what the code makes of the second: the chunk's bytes up to `end`
 pub made-line : (s₀ t : Listing) (r : Line) (i : List ℕ) (at end : ℕ) → t ≡ opened (s₀.count + 1) 0
     → end ≡ at + (s₀.wanted - s₀.held) → r ≡ line_with s₀ (take (end - at) (drop at i))
     → s₀.wanted - s₀.held ≤ length i - at
@@ -138,27 +126,6 @@ pub closing-refused : (s : Listing) → in_limits s ≡ false → closing s ≡ 
 closing-refused s h = passed (in_limits s) _ _ h
 
 -- ---- what is kept, and the line of it
--- the same state with these bytes
-abbrev pub holding : Listing → ℕ → List ℕ → Listing
-holding s n b = record { count = s.count; wanted = s.wanted; held = n; bytes = b }
-
-pub kept-long : (s : Listing) (t : List ℕ) → most_kept < s.wanted → holding s (s.held + length t) s.bytes ≡ kept_with s t
-kept-long s t h = ap (λ (b : List ℕ). holding s (s.held + length t) b)
-    (sym (picked (ltb most_kept s.wanted) _ _ (lt-ltb most_kept s.wanted h)))
-
-pub kept-short : (s : Listing) (t b : List ℕ) → s.wanted ≤ most_kept → length s.bytes ≡ most_kept
-    → s.held + length t < s.wanted → b ≡ put_at s.bytes s.held t
-    → holding s (s.held + length t) b ≡ kept_with s t
-kept-short s t b h l f e =
-    ap (λ (x : List ℕ). holding s (s.held + length t) x)
-    (e ∙ put-fits s.bytes s.held t (omega arith) ∙ sym (passed (ltb most_kept s.wanted) _ _ (le-ltb most_kept s.wanted h)))
-
-pub line-long : (s : Listing) (t : List ℕ) (n : ℕ) → most_kept < s.wanted → n ≡ 1 → LineRefused s.count n ≡ line_with s t
-line-long s t n h e =
-    ap (λ (m : ℕ). LineRefused s.count m) e
-    ∙ sym (ap (λ (a : Answer DirectCommands). line_of s.count a)
-    (picked (ltb most_kept s.wanted) _ _ (lt-ltb most_kept s.wanted h)))
-
 pub take_put : (b t : List ℕ) (at n : ℕ) → at + length t ≡ n → n ≤ length b → take n (sets b at t) ≡ take at b ++ t
 take_put b t at n e l =
     let f : at + length t ≤ length b = omega arith in

@@ -1,23 +1,24 @@
 -- A chunk's lines as text, in parts: each has as many lines as a lent text has room for. Assumes nothing.
-use Rattle.std.specs.Prelude.{ℕ, zero, suc, ◌-◌, ◌≤◌, ◌<◌, Bool, true, false, List, [], ◌∷◌, ◌++◌, map, ◌≡◌, length, ltb}
+use Rattle.std.specs.Prelude.{ℕ, zero, suc, ◌-◌, ◌≤◌, ◌<◌, Bool, true, false, List, [], ◌∷◌, ◌++◌, map, ◌≡◌, length, ltb, Result, Ok, Err}
 use Rattle.std.proofs.lemmas.List.Edits.{sets}
 use Rattle.codec.specs.Pick.{pick}
 use Rattle.codec.specs.Sheet.{Answer, got, refused}
 use Rattle.codec.specs.Refusals.{refusal_number, value_in}
+use Rattle.codec.specs.declared.refusal.Refusal.{Refusal}
 use Rattle.listing.specs.Text.{longest_text, text_of}
 use Rattle.listing.specs.Step.{step_of, closing}
 use Rattle.listing.specs.Chunks.{lines_in, state_in, chunk, joined}
 use Rattle.listing.specs.declared.line.Line.{Line}
 use Rattle.listing.specs.declared.Listing.{Listing}
 use Rattle.listing.specs.declared.Stop.{Stop}
-use Rattle.listing.specs.declared.Stop.TheVariants.{Used, Full, Refused}
+use Rattle.listing.specs.declared.Stop.TheVariants.{Used, Full}
 use Rattle.listing.specs.declared.Part.{Part}
 
 -- whether the chunk is used up, or a number
-abbrev pub told_stop : Stop → Answer Bool
-told_stop Used = got true
-told_stop Full = got false
-told_stop (Refused r) = refused (refusal_number r) 0
+abbrev pub told_stop : Result Stop Refusal → Answer Bool
+told_stop (Ok Used) = got true
+told_stop (Ok Full) = got false
+told_stop (Err r) = refused (refusal_number r) 0
 
 -- a part: its text, the state and the place behind it, and whether the chunk is used up
 pub record Filled : Type 0 where

@@ -1,32 +1,34 @@
 -- One step of the listing over a chunk, and the state that is kept between chunks. Assumes nothing.
-use Rattle.std.specs.Prelude.{ℕ, ◌+◌, ◌-◌, Bool, false, List, [], ◌∷◌, ◌++◌, length, take, drop, get_or, replicate, ltb, leb, eqb}
+use Rattle.std.specs.Prelude.{ℕ, ◌+◌, ◌-◌, Bool, false, List, [], ◌∷◌, ◌++◌, length, take, drop, get_or, replicate, ltb, leb, eqb, Option, Some, None, Result, Ok, Err}
 use Rattle.std.proofs.lemmas.List.Edits.{sets}
 use Rattle.codec.specs.Pick.{pick}
 use Rattle.codec.specs.Sheet.{Answer, got, refused}
 use Rattle.codec.specs.Refusals.{refusal_number}
+use Rattle.codec.specs.declared.refusal.Refusal.{Refusal}
 use Rattle.commands.specs.Reading.{read_command}
 use Rattle.listing.specs.Listing.{line_of}
 use Rattle.listing.specs.declared.line.Line.{Line}
 use Rattle.listing.specs.declared.line.Line.TheVariants.{Cut, End}
 use Rattle.listing.specs.declared.Listing.{Listing}
-use Rattle.listing.specs.declared.Listed.{Listed}
-use Rattle.listing.specs.declared.Listed.TheVariants.{Line as Found, Nothing, Refused}
 use Rattle.listing.specs.declared.Step.{Step}
 
--- what an answer tells: its lines, or its number
-abbrev pub told_listed : Listed → Answer (List Line)
-told_listed (Found l) = got (l ∷ [])
-told_listed Nothing = got []
-told_listed (Refused r) = refused (refusal_number r) 0
-
--- and a step: the state after it, the place where the next goes on, and that
+-- what a step tells: the state after it, the place where the next goes on, and its lines, or a number
 pub record Stepped : Type 0 where
   pub state : Listing
   pub at : ℕ
   pub says : Answer (List Line)
 
+abbrev pub lines_of : Option Line → List Line
+lines_of None = []
+lines_of (Some l) = l ∷ []
+
 abbrev pub told_step : Step → Stepped
-told_step x = record { state = x.state; at = x.at; says = told_listed x.listed }
+told_step x = record { state = x.state; at = x.at; says = got (lines_of x.line) }
+
+-- a refused one leaves the state and the place as they were
+abbrev pub told_next : Listing → ℕ → Result Step Refusal → Stepped
+told_next s at (Ok x) = told_step x
+told_next s at (Err r) = record { state = s; at = at; says = refused (refusal_number r) 0 }
 
 -- a count that can be raised is below this
 abbrev pub most_records : ℕ

@@ -1,13 +1,14 @@
 // Document 01, "The listing", as a step over a chunk of the input. Nothing here reads or writes.
 #![tactic(auto)]
 
-ghost use Rattle.std.specs.Prelude.{◌≡◌, ◌+◌, ◌≤◌, ◌<◌, length};
+ghost use Rattle.std.specs.Prelude.{◌≡◌, ◌+◌, ◌≤◌, ◌<◌, [], ◌∷◌, length};
+ghost use Rattle.codec.specs.Refusals.{told};
 ghost use Rattle.commands.specs.Reading.{read_command};
 ghost use Rattle.listing.specs.Listing.{line_of};
 ghost use Rattle.listing.specs.Parts.{FillsFrom, Moves};
-ghost use Rattle.listing.specs.Step.{most_records, longest_record, told_listed, told_step, in_limits, opened, kept_with, line_with, go_on, step_of, closing};
+ghost use Rattle.listing.specs.Step.{most_records, longest_record, told_step, told_next, in_limits, opened, kept_with, line_with, go_on, step_of, closing};
 
-use codec::refusal::{Outcome, Refusal};
+use codec::refusal::Refusal;
 use commands::DirectCommands;
 use line::Line;
 
@@ -20,7 +21,8 @@ const MOST_KEPT: usize = 60;
 const LONGEST_RECORD: usize = 255;
 
 // Between two chunks: the records so far; of the one that is cut, its length, how many payload bytes have come, and they, where
-// they matter. Between records both numbers are 0.
+// they matter. Between records both numbers are 0. No Option stands for them: a state beyond its limits comes back as it was
+// (`fill_beyond`).
 #[derive(Clone, Copy)]
 pub struct Listing {
     pub count: u64,
@@ -29,37 +31,29 @@ pub struct Listing {
     pub bytes: [u8; MOST_KEPT],
 }
 
-// What a step or the end gives: a line; none, as the chunk is used up; or a number, for a state beyond its limits.
-#[derive(Clone, Copy)]
-pub enum Listed {
-    Line(Line),
-    Nothing,
-    Refused(Refusal),
-}
-
-// The state after a step, the place in the chunk where the next goes on, and what was found.
+// The state after a step, the place in the chunk where the next goes on, and the line that was found: none, as the chunk is used up.
 #[derive(Clone, Copy)]
 pub struct Step {
     pub state: Listing,
     pub at: usize,
-    pub listed: Listed,
+    pub line: Option<Line>,
 }
 
-// Why a part ends: the chunk is used up; the next line has no room; or a number, for a state beyond its limits.
-#[derive(Clone, Copy)]
+// Why a part ends: the chunk is used up; the next line has no room.
+#[derive(Clone, Copy, Debug, PartialEq, Eq)]
 pub enum Stop {
     Used,
     Full,
-    Refused(Refusal),
 }
 
-// The state after a part's lines, the place in the chunk where the next part goes on, and how many bytes of text there are.
+// The state after a part's lines, the place in the chunk where the next part goes on, and how many bytes of text there are. A refusal, of a
+// state beyond its limits, stands inside: lines may stand before it.
 #[derive(Clone, Copy)]
 pub struct Part {
     pub state: Listing,
     pub at: usize,
     pub len: usize,
-    pub stop: Stop,
+    pub stop: Result<Stop, Refusal>,
 }
 
 // Nothing of a record's payload has come yet.
@@ -74,26 +68,16 @@ fn fresh(count: u64, wanted: usize) -> Listing
     }
 }
 
-fn wide(byte: u8) -> usize
-    ensures { result ≡ byte }
-{
-    byte as usize
-}
-
 // The line of a whole payload.
 fn line_of(count: u64, payload: &[u8]) -> Line
     ensures { result ≡ line_of count (read_command payload.now) }
 {
-    let read = DirectCommands::from_bytes(payload);
-    let outcome = read.outcome;
-    let command = read.command;
-    let family = command.payload;
-    match outcome {
-        Outcome::Accepted => {
-            let id = families::payload::command_id(family);
+    match DirectCommands::from_bytes(payload) {
+        Ok(command) => {
+            let id = families::payload::command_id(command.payload);
             Line::Read(count, id, command.written_len())
         }
-        Outcome::Refused(why) => Line::Refused(count, codec::refusal::number(why)),
+        Err(why) => Line::Refused(count, u8::from(why)),
     }
 }
 
@@ -107,57 +91,36 @@ impl Listing {
     fn in_limits(self) -> bool
         ensures { result ≡ in_limits self }
     {
-        if u64::MAX <= self.count {
-            return false;
-        }
-        if LONGEST_RECORD < self.wanted {
-            return false;
-        }
-        if self.wanted == 0 {
-            return self.held == 0;
-        }
-        self.held < self.wanted
+        self.count < u64::MAX
+            && self.wanted <= LONGEST_RECORD
+            && (self.held < self.wanted || self.wanted == 0 && self.held == 0)
     }
 
     // These payload bytes, too, have come.
-    fn keep(self, part: &[u8]) -> Listing
+    fn keep(mut self, part: &[u8]) -> Listing
         requires { self.held + length part.now < self.wanted }
         ensures { result ≡ kept_with self part.now }
     {
-        let mut kept = self.bytes;
-        let held = self.held + part.len();
-        if MOST_KEPT < self.wanted {
-            return Listing {
-                count: self.count,
-                wanted: self.wanted,
-                held,
-                bytes: kept,
-            };
+        let held = self.held;
+        if self.wanted <= MOST_KEPT {
+            codec::writer::put_bytes(&mut self.bytes, held, part);
         }
-        codec::writer::put_bytes(&mut kept, self.held, part);
-        Listing {
-            count: self.count,
-            wanted: self.wanted,
-            held,
-            bytes: kept,
-        }
+        self.held = held + part.len();
+        self
     }
 
     // The line of a record that came in pieces, with the last of them.
-    fn join(self, part: &[u8]) -> Line
+    fn join(mut self, part: &[u8]) -> Line
         requires { self.held + length part.now ≡ self.wanted }
         ensures { result ≡ line_with self part.now }
     {
         let wanted = self.wanted;
         if MOST_KEPT < wanted {
-            return Line::Refused(
-                self.count,
-                codec::refusal::number(Refusal::InvalidPayloadLength),
-            );
+            return Line::Refused(self.count, u8::from(Refusal::InvalidPayloadLength));
         }
-        let mut kept = self.bytes;
-        codec::writer::put_bytes(&mut kept, self.held, part);
-        line_of(self.count, &kept[..wanted])
+        let held = self.held;
+        codec::writer::put_bytes(&mut self.bytes, held, part);
+        line_of(self.count, &self.bytes[..wanted])
     }
 
     // A record that goes on in this chunk.
@@ -170,39 +133,35 @@ impl Listing {
             return Step {
                 state: self.keep(&input[at..]),
                 at: input.len(),
-                listed: Listed::Nothing,
+                line: None,
             };
         }
         let end = at + left;
         Step {
             state: fresh(self.count + 1, 0),
             at: end,
-            listed: Listed::Line(self.join(&input[at..end])),
+            line: Some(self.join(&input[at..end])),
         }
     }
 
     // One record from a place of the chunk on, or all that is left of the chunk.
-    fn next(self, input: &[u8], at: usize) -> Step
-        ensures { told_step result ≡ step_of self input.now at }
+    fn next(self, input: &[u8], at: usize) -> Result<Step, Refusal>
+        ensures { told_next self at result ≡ step_of self input.now at }
     {
-        if self.in_limits() {
-            if input.len() <= at {
-                return Step {
-                    state: self,
-                    at,
-                    listed: Listed::Nothing,
-                };
-            }
-            if self.wanted == 0 {
-                return begin(self.count, wide(input[at]), input, at + 1);
-            }
-            return self.go_on(input, at);
+        if !self.in_limits() {
+            return Err(Refusal::RecordNotMade);
         }
-        Step {
-            state: self,
-            at,
-            listed: Listed::Refused(Refusal::RecordNotMade),
+        if input.len() <= at {
+            return Ok(Step {
+                state: self,
+                at,
+                line: None,
+            });
         }
+        if self.wanted == 0 {
+            return Ok(begin(self.count, usize::from(input[at]), input, at + 1));
+        }
+        Ok(self.go_on(input, at))
     }
 
     // The text of the lines from a place of the chunk on, as many as have room.
@@ -213,28 +172,26 @@ impl Listing {
         let mut state = self;
         let mut place = at;
         let mut len: usize = 0;
+        // Each step says where the next one begins, and each line where its text ends: no index is counted, and no `for` has them.
         loop {
-            let step = state.next(input, place);
-            let listed = step.listed;
-            let after = step.state;
-            let line = match listed {
-                Listed::Line(line) => line,
-                Listed::Nothing => {
+            let step = match state.next(input, place) {
+                Ok(step) => step,
+                Err(why) => {
                     return Part {
-                        state: after,
-                        at: step.at,
+                        state,
+                        at: place,
                         len,
-                        stop: Stop::Used,
+                        stop: Err(why),
                     };
                 }
-                Listed::Refused(why) => {
-                    return Part {
-                        state: after,
-                        at: step.at,
-                        len,
-                        stop: Stop::Refused(why),
-                    };
-                }
+            };
+            let Some(line) = step.line else {
+                return Part {
+                    state: step.state,
+                    at: step.at,
+                    len,
+                    stop: Ok(Stop::Used),
+                };
             };
             let put = line::put_text(line, text, len);
             if put == 0 {
@@ -242,26 +199,26 @@ impl Listing {
                     state,
                     at: place,
                     len,
-                    stop: Stop::Full,
+                    stop: Ok(Stop::Full),
                 };
             }
             len += put;
-            state = after;
+            state = step.state;
             place = step.at;
         }
     }
 
     // The input has ended.
-    pub fn finish(self) -> Listed
-        ensures { told_listed result ≡ closing self }
+    pub fn finish(self) -> Result<Line, Refusal>
+        ensures { told (λ line. line ∷ []) result ≡ closing self }
     {
-        if self.in_limits() {
-            if self.wanted == 0 {
-                return Listed::Line(Line::End(self.count));
-            }
-            return Listed::Line(Line::Cut(self.count));
+        if !self.in_limits() {
+            return Err(Refusal::RecordNotMade);
         }
-        Listed::Refused(Refusal::RecordNotMade)
+        if self.wanted == 0 {
+            return Ok(Line::End(self.count));
+        }
+        Ok(Line::Cut(self.count))
     }
 }
 
@@ -274,13 +231,13 @@ fn begin(count: u64, wanted: usize, input: &[u8], at: usize) -> Step
         return Step {
             state: fresh(count, wanted).keep(&input[at..]),
             at: input.len(),
-            listed: Listed::Nothing,
+            line: None,
         };
     }
     let end = at + wanted;
     Step {
         state: fresh(count + 1, 0),
         at: end,
-        listed: Listed::Line(line_of(count, &input[at..end])),
+        line: Some(line_of(count, &input[at..end])),
     }
 }

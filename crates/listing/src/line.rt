@@ -1,15 +1,13 @@
 // A line of the listing, and its text.
-ghost use Rattle.std.specs.Prelude.{◌≡◌, length};
 ghost use Rattle.codec.specs.Told.{WritesAll};
 ghost use Rattle.text.specs.Putting.{EndsWith};
-ghost use Rattle.listing.specs.Text.{longest_text, text_of, PutsText};
+ghost use Rattle.listing.specs.Text.{text_of, PutsText};
 
 use codec::refusal::Refusal;
-use codec::writer::Written;
 use text::{put_behind, put_decimal, put_hex, put_numbered, put_word};
 
 // The records' numbers count from 0; the last number of a read line is the written length.
-#[derive(Clone, Copy)]
+#[derive(Clone, Copy, Debug, PartialEq, Eq)]
 pub enum Line {
     Read(u64, u8, usize),
     Refused(u64, u8),
@@ -21,8 +19,7 @@ pub enum Line {
 const LONGEST: usize = 64;
 
 // All of a line's text.
-fn put_read(text: &mut [u8], count: u64, family: u8, written: usize) -> usize
-    requires { length text.old ≡ longest_text }
+fn put_read(text: &mut [u8; LONGEST], count: u64, family: u8, written: usize) -> usize
     ensures { EndsWith (text_of (Line.Read count family written)) result text.new }
 {
     let space = put_numbered(text, LONGEST, b" ", written as u64);
@@ -31,16 +28,14 @@ fn put_read(text: &mut [u8], count: u64, family: u8, written: usize) -> usize
     put_decimal(text, word, count)
 }
 
-fn put_refused(text: &mut [u8], count: u64, why: u8) -> usize
-    requires { length text.old ≡ longest_text }
+fn put_refused(text: &mut [u8; LONGEST], count: u64, why: u8) -> usize
     ensures { EndsWith (text_of (Line.Refused count why)) result text.new }
 {
     let word = put_numbered(text, LONGEST, b" refused ", why as u64);
     put_decimal(text, word, count)
 }
 
-fn put_line(text: &mut [u8], line: Line) -> usize
-    requires { length text.old ≡ longest_text }
+fn put_line(text: &mut [u8; LONGEST], line: Line) -> usize
     ensures { EndsWith (text_of line) result text.new }
 {
     match line {
@@ -51,7 +46,7 @@ fn put_line(text: &mut [u8], line: Line) -> usize
     }
 }
 
-// The text at a place of `out`, where all of it has room there: the answer is its length, else 0.
+// The text at a place of `out`, where all of it has room there: the answer is its length, else 0, as `put_behind` answers.
 pub(crate) fn put_text(line: Line, out: &mut [u8], at: usize) -> usize
     ensures { PutsText line at result out.old out.new }
 {
@@ -61,12 +56,12 @@ pub(crate) fn put_text(line: Line, out: &mut [u8], at: usize) -> usize
 }
 
 // The text at the front of `out`, where all of it has room; else 3.
-pub fn render(line: Line, out: &mut [u8]) -> Written
+pub fn render(line: Line, out: &mut [u8]) -> Result<usize, Refusal>
     ensures { WritesAll (text_of line) result out.old out.new }
 {
     let len = put_text(line, out, 0);
     if len == 0 {
-        return Written::Refused(Refusal::BufferOverflow);
+        return Err(Refusal::BufferOverflow);
     }
-    Written::Count(len)
+    Ok(len)
 }

@@ -1,15 +1,14 @@
 -- The C boundary's image of a question (include/crsf.h). Assumes nothing.
-use Rattle.std.specs.Prelude.{ℕ, ◌≡◌, List, ◌∷◌, ◌++◌, length, drop, get_or, leb, eqb}
+use Rattle.std.specs.Prelude.{Result, ℕ, List, ◌∷◌, ◌++◌, length, drop, get_or, leb, eqb}
 use Rattle.codec.specs.Pick.{pick}
 use Rattle.codec.specs.Digits.{bytes_of}
 use Rattle.codec.specs.Sheet.{Answer, got, refused}
-use Rattle.codec.specs.Refusals.{outcome_number, number_in, value_in}
+use Rattle.codec.specs.Refusals.{Gives}
 use Rattle.codec.specs.Told.{bit}
 use Rattle.images.specs.Number.{number_at}
 use Rattle.images.specs.Popup.{popup_image}
-use Rattle.questions.specs.Kept.{new_question}
 use Rattle.questions.specs.declared.Question.{Question}
-use Rattle.question_images.specs.declared.QuestionAnswer.{QuestionAnswer}
+use Rattle.codec.specs.declared.refusal.Refusal.{Refusal}
 
 -- 66 bytes: started (1, 0 or 1); open (1, 0 or 1); second when the popup was sent (4); last accepted second (4); popup image (56)
 abbrev pub question_image : Question → List ℕ
@@ -32,5 +31,5 @@ question_from s =
     (pick (leb (get_or s 0 0) 1) (pick (leb (get_or s 1 0) 1) (got (question_at s)) (refused 5 0)) (refused 5 0))
     (refused 5 0)
 
-abbrev pub QuestionIs : Answer Question → QuestionAnswer → Type 0
-QuestionIs a r = (outcome_number r.outcome ≡ number_in a) × (r.question ≡ value_in new_question a)
+abbrev pub QuestionIs : Answer Question → Result Question Refusal → Type 0
+QuestionIs a r = Gives (λ q. q) a r

@@ -3,12 +3,11 @@
 #![tactic(auto)]
 
 ghost use Rattle.std.specs.Prelude.{◌≡◌};
-ghost use Rattle.codec.specs.Sheet.{refused};
 ghost use Rattle.codec.specs.Writing.{put_at};
 ghost use Rattle.question_images.specs.Image.{question_image, question_from, QuestionIs};
 
 use codec::reader::Width;
-use codec::refusal::{Outcome, Refusal};
+use codec::refusal::Refusal;
 use questions::Question;
 
 // Where its parts stand, and its size, in include/crsf.h's words.
@@ -24,49 +23,23 @@ const QUESTION_POPUP: usize = 10;
 
 pub const QUESTION_SIZE: usize = 66;
 
-#[derive(Clone, Copy)]
-pub struct QuestionAnswer {
-    pub outcome: Outcome,
-    pub question: Question,
-}
-
-// 5, and a new question.
-fn no_question() -> QuestionAnswer
-    ensures { QuestionIs (refused 5 0) result }
-{
-    QuestionAnswer {
-        outcome: Outcome::Refused(Refusal::RecordNotMade),
-        question: Question::new(),
-    }
-}
-
-// The question of an image; of other bytes 5, and a new one.
-pub fn from(image: &[u8]) -> QuestionAnswer
+// The question of an image; of other bytes 5.
+pub fn from(image: &[u8]) -> Result<Question, Refusal>
     ensures { QuestionIs (question_from image.now) result }
 {
     if image.len() != QUESTION_SIZE {
-        return no_question();
+        return Err(Refusal::RecordNotMade);
     }
-    let started = image[QUESTION_STARTED];
-    let open = image[QUESTION_OPEN];
-    if 1 < started {
-        return no_question();
-    }
-    if 1 < open {
-        return no_question();
-    }
-    let stored = images::popup::from(&image[QUESTION_POPUP..]);
-    let popup = stored.popup;
-    QuestionAnswer {
-        outcome: Outcome::Accepted,
-        question: Question {
-            started: started == 1,
-            open: open == 1,
-            sent: images::number::at(image, QUESTION_SENT, Width::Four),
-            last: images::number::at(image, QUESTION_LAST, Width::Four),
-            popup,
-        },
-    }
+    let started = images::number::flag(image[QUESTION_STARTED])?;
+    let open = images::number::flag(image[QUESTION_OPEN])?;
+    let popup = images::popup::from(&image[QUESTION_POPUP..])?;
+    Ok(Question {
+        started,
+        open,
+        sent: images::number::at(image, QUESTION_SENT, Width::Four),
+        last: images::number::at(image, QUESTION_LAST, Width::Four),
+        popup,
+    })
 }
 
 // The image at the front, where all of it has room.
@@ -76,15 +49,13 @@ pub fn put(question: Question, out: &mut [u8])
     if out.len() < QUESTION_SIZE {
         return;
     }
-    let popup = question.popup;
-    let stored = popup.bytes;
-    codec::writer::put_byte(
-        out,
-        QUESTION_STARTED,
-        codec::writer::bit_of(question.started),
-    );
-    codec::writer::put_byte(out, QUESTION_OPEN, codec::writer::bit_of(question.open));
+    codec::writer::put_byte(out, QUESTION_STARTED, u8::from(question.started));
+    codec::writer::put_byte(out, QUESTION_OPEN, u8::from(question.open));
     codec::writer::put_number(out, QUESTION_SENT, Width::Four, question.sent);
     codec::writer::put_number(out, QUESTION_LAST, Width::Four, question.last);
-    images::stored::put(popup.len, &stored, &mut out[QUESTION_POPUP..QUESTION_SIZE]);
+    images::stored::put(
+        question.popup.len,
+        &question.popup.bytes,
+        &mut out[QUESTION_POPUP..QUESTION_SIZE],
+    );
 }

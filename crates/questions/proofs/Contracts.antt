@@ -1,5 +1,6 @@
 -- The theorem of any calls, of whatever meets the contracts of `ask`, `returned` and `command`, called in turn. `Post` is the contract as
 -- the check reads it from the source, and no copy of it. Assumes nothing.
+use Rattle.std.specs.Prelude.{Result}
 use mathlib.Core.Bool.{true}
 use mathlib.Core.List.{List, [], ◌∷◌}
 use mathlib.Core.Path.{◌≡◌, refl, ap, ap₂, subst, ◌∙◌}
@@ -11,7 +12,8 @@ use Rattle.questions.specs.Table.{State, new_state, Call, asks, returns, Told, a
 use Rattle.questions.specs.Kept.{told_reply, state_of, in_limits, StepIs, call_of}
 use Rattle.questions.specs.Calls.{replies, kept_last}
 use Rattle.questions.specs.declared.Question.{Question}
-use Rattle.questions.specs.declared.Step.{Step}
+use Rattle.questions.specs.declared.Reason.{Reason}
+use Rattle.questions.specs.declared.Reply.{Reply}
 use Rattle.questions.proofs.AnyCalls.{any_calls_from}
 use Rattle.questions.proofs.Keeps.{new-within}
 use Rattle.questions.proofs.Question.new.Reads as new
@@ -24,31 +26,37 @@ use Rattle.questions.proofs.Question.command.Reads as command
 use Rattle.questions.proofs.Question.command.Kinds as command-kinds
 
 -- a call of one of them: what it was handed, what it answered and what it left, all that is known of it being its contract
-pub data Made (κs : Lfts 0) : Type 0 where
-  asking : (a : Dens κs ask-kinds.ps) (r : Step) (t : AtExit (ended_of 0 ask-kinds.ps ask-kinds.r) κs) → ask.Post κs a r t → Made κs
-  returning : (a : Dens κs returned-kinds.ps) (r : Step) (t : AtExit (ended_of 0 returned-kinds.ps returned-kinds.r) κs)
+pub data Made (κs : Lfts 1) : Type 0 where
+  asking : (a : Dens κs ask-kinds.ps) (r : Result Reply Reason) (t : AtExit (ended_of 1 ask-kinds.ps ask-kinds.r) κs) → ask.Post κs a r t → Made κs
+  returning : (a : Dens κs returned-kinds.ps) (r : Result Reply Reason) (t : AtExit (ended_of 1 returned-kinds.ps returned-kinds.r) κs)
       → returned.Post κs a r t → Made κs
-  commanding : (a : Dens κs command-kinds.ps) (r : Step) (t : AtExit (ended_of 0 command-kinds.ps command-kinds.r) κs)
+  commanding : (a : Dens κs command-kinds.ps) (r : Result Reply Reason) (t : AtExit (ended_of 1 command-kinds.ps command-kinds.r) κs)
       → command.Post κs a r t → Made κs
 
-module _ (κs : Lfts 0) where
+module _ (κs : Lfts 1) where
   -- the question that it was handed, the table's call, and the answer
   abbrev pub given : Made κs → Question
-  given (asking a r t m) = a.0
-  given (returning a r t m) = a.0
-  given (commanding a r t m) = a.0
+  given (asking a r t m) = a.0.now
+  given (returning a r t m) = a.0.now
+  given (commanding a r t m) = a.0.now
 
   abbrev pub call : Made κs → Call
   call (asking a r t m) = asks a.1.0 a.1.1.0
   call (returning a r t m) = returns a.1.0 a.1.1.0 a.1.1.1.0
   call (commanding a r t m) = call_of a.1.0 a.1.1.0
 
-  abbrev pub step : Made κs → Step
-  step (asking a r t m) = r
-  step (returning a r t m) = r
-  step (commanding a r t m) = r
+  abbrev pub reply : Made κs → Result Reply Reason
+  reply (asking a r t m) = r
+  reply (returning a r t m) = r
+  reply (commanding a r t m) = r
 
-  step_is : (k : Made κs) → StepIs (given k) (call k) (step k)
+  -- and the question that it left
+  abbrev pub left : Made κs → Question
+  left (asking a r t m) = t.0.now
+  left (returning a r t m) = t.0.now
+  left (commanding a r t m) = t.0.now
+
+  step_is : (k : Made κs) → StepIs (given k) (call k) (reply k) (left k)
   step_is (asking a r t m) = m
   step_is (returning a r t m) = m
   step_is (commanding a r t m) = m
@@ -56,7 +64,7 @@ module _ (κs : Lfts 0) where
   -- each is handed the question that the one before it left, the first this one
   abbrev pub InTurn : Question → List (Made κs) → Type 0
   InTurn q [] = Unit {0}
-  InTurn q (k ∷ ks) = (given k ≡ q) × InTurn (step k).question ks
+  InTurn q (k ∷ ks) = (given k ≡ q) × InTurn (left k) ks
 
   -- the calls, what is told, and the question that is left
   abbrev pub calls : List (Made κs) → List Call
@@ -65,17 +73,17 @@ module _ (κs : Lfts 0) where
 
   abbrev pub told_by : List (Made κs) → List (Answer Told)
   told_by [] = []
-  told_by (k ∷ ks) = told_reply (step k).reply ∷ told_by ks
+  told_by (k ∷ ks) = told_reply (reply k) ∷ told_by ks
 
   abbrev pub left_by : Question → List (Made κs) → Question
   left_by q [] = q
-  left_by q (k ∷ ks) = left_by (step k).question ks
+  left_by q (k ∷ ks) = left_by (left k) ks
 
   as_kept : (ks : List (Made κs)) (q : Question) → InTurn q ks → (told_by ks ≡ replies q (calls ks)) × (left_by q ks ≡ kept_last q (calls ks))
   as_kept [] q h = (refl, refl)
   as_kept (k ∷ ks) q (e, h) =
-      let i = subst (λ (p : Question). StepIs p (call k) (step k)) e (step_is k) in
-      let rest = as_kept ks (step k).question h in (
+      let i = subst (λ (p : Question). StepIs p (call k) (reply k) (left k)) e (step_is k) in
+      let rest = as_kept ks (left k) h in (
         ap₂ (λ (x : Answer Told) (xs : List (Answer Told)). x ∷ xs) i.reply
             (rest.0 ∙ ap (λ (p : Question). replies p (calls ks)) i.question),
         rest.1 ∙ ap (λ (p : Question). kept_last p (calls ks)) i.question,
@@ -90,10 +98,11 @@ module _ (κs : Lfts 0) where
       (k.0 ∙ t.0, ap state_of k.1 ∙ t.1.0)
 
   -- from what meets the contract of `new`
-  pub all_told : (a : Dens κs new-kinds.ps) (q : Question) (t : AtExit (ended_of 0 new-kinds.ps new-kinds.r) κs) → new.Post κs a q t
+  pub all_told : (ηs : Lfts 0) (a : Dens ηs new-kinds.ps) (q : Question) (t : AtExit (ended_of 0 new-kinds.ps new-kinds.r) ηs)
+      → new.Post ηs a q t
       → (ks : List (Made κs)) → InTurn q ks
       → (told_by ks ≡ answers new_state (calls ks)) × (state_of (left_by q ks) ≡ state_after new_state (calls ks))
-  all_told a q t p ks h =
+  all_told ηs a q t p ks h =
       let k = calls-told q (ap in_limits p ∙ new-within) ks h in
       let e : state_of q ≡ new_state = ap state_of p in (
         k.0 ∙ ap (λ (s : State). answers s (calls ks)) e,

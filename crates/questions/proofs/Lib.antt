@@ -1,6 +1,3 @@
-pub mod Inspected
-pub mod Limits
-pub mod Cases
 pub mod Accepted
 pub mod Keeps
 pub mod AnyCalls

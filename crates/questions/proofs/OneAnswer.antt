@@ -1,5 +1,6 @@
--- Any two answers that a public function's contract allows coincide. `Post` is the contract as the check reads it from the source, and no
+-- Any two answers that a public function's contract allows coincide, and so do the questions that it leaves. `Post` is the contract as the check reads it from the source, and no
 -- copy of it. Assumes nothing.
+use Rattle.std.specs.Prelude.{Result, Ok, Err}
 use Prim.Native.Nat.{ℕ}
 use mathlib.Core.Path.{◌≡◌, refl, ap, sym, ◌∙◌}
 use contract.Lifetimes.{Lfts}
@@ -14,10 +15,9 @@ use Rattle.questions.specs.declared.Question.{Question}
 use Rattle.questions.specs.declared.Reason.{Reason}
 use Rattle.questions.specs.declared.Reason.TheVariants.{RecordNotMade, InvalidPayload, Clock, QuestionOpen, NoQuestion, Value}
 use Rattle.questions.specs.declared.Reply.{Reply}
-use Rattle.questions.specs.declared.Reply.TheVariants.{Opened, Processed, Cancelled, Expired, Refused}
-use Rattle.questions.specs.declared.Step.{Step}
-use Rattle.questions.proofs.number.Reads as number
-use Rattle.questions.proofs.number.Kinds as number-kinds
+use Rattle.questions.specs.declared.Reply.TheVariants.{Opened, Processed, Cancelled, Expired}
+use Rattle.questions.proofs.U8FromReason.from.Reads as number
+use Rattle.questions.proofs.U8FromReason.from.Kinds as number-kinds
 use Rattle.questions.proofs.Question.new.Reads as new
 use Rattle.questions.proofs.Question.new.Kinds as new-kinds
 use Rattle.questions.proofs.Question.ask.Reads as ask
@@ -41,25 +41,26 @@ reason_back QuestionOpen = refl
 reason_back NoQuestion = refl
 reason_back Value = refl
 
-abbrev pub reply_told : Answer Told → Reply
-reply_told (got opened) = Opened
-reply_told (got processed) = Processed
-reply_told (got cancelled) = Cancelled
-reply_told (got expired) = Expired
-reply_told (refused n p) = Refused (reason_of n)
+abbrev pub reply_told : Answer Told → Result Reply Reason
+reply_told (got opened) = Ok Opened
+reply_told (got processed) = Ok Processed
+reply_told (got cancelled) = Ok Cancelled
+reply_told (got expired) = Ok Expired
+reply_told (refused n p) = Err (reason_of n)
 
-pub reply-told : (x : Reply) → reply_told (told_reply x) ≡ x
-reply-told Opened = refl
-reply-told Processed = refl
-reply-told Cancelled = refl
-reply-told Expired = refl
-reply-told (Refused why) = ap Refused (reason_back why)
+pub reply-told : (x : Result Reply Reason) → reply_told (told_reply x) ≡ x
+reply-told (Ok Opened) = refl
+reply-told (Ok Processed) = refl
+reply-told (Ok Cancelled) = refl
+reply-told (Ok Expired) = refl
+reply-told (Err why) = ap Err (reason_back why)
 
--- a call fixes the reply and the question that is kept
-pub step_one : (q : Question) (c : Call) (x y : Step) → StepIs q c x → StepIs q c y → x ≡ y
-step_one q c x y g h =
-    let e : x.reply ≡ y.reply = sym (reply-told x.reply) ∙ ap reply_told (g.reply ∙ sym h.reply) ∙ reply-told y.reply in
-    rw (e, g.question ∙ sym h.question)
+-- a call fixes the reply and the question that is left
+pub step_one : (q : Question) (c : Call) (x y : Result Reply Reason) (p r : Question) → StepIs q c x p → StepIs q c y r → (x ≡ y) × (p ≡ r)
+step_one q c x y p r g h = (
+  sym (reply-told x) ∙ ap reply_told (g.reply ∙ sym h.reply) ∙ reply-told y,
+  g.question ∙ sym h.question,
+)
 
 -- ---- the public functions
 pub number_one : (κs : Lfts 0) (a : Dens κs number-kinds.ps) (x y : (res_t number-kinds.r κs).Denot)
@@ -72,17 +73,17 @@ pub new_one : (κs : Lfts 0) (a : Dens κs new-kinds.ps) (x y : (res_t new-kinds
     → new.Post κs a x s → new.Post κs a y t → x ≡ y
 new_one κs a x y s t p q = p ∙ sym q
 
-pub ask_one : (κs : Lfts 0) (a : Dens κs ask-kinds.ps) (x y : (res_t ask-kinds.r κs).Denot)
-    (s t : AtExit (ended_of 0 ask-kinds.ps ask-kinds.r) κs)
-    → ask.Post κs a x s → ask.Post κs a y t → x ≡ y
-ask_one κs a x y s t p q = step_one a.0 (asks a.1.0 a.1.1.0) x y p q
+pub ask_one : (κs : Lfts 1) (a : Dens κs ask-kinds.ps) (x y : (res_t ask-kinds.r κs).Denot)
+    (s t : AtExit (ended_of 1 ask-kinds.ps ask-kinds.r) κs)
+    → ask.Post κs a x s → ask.Post κs a y t → (x ≡ y) × (s.0.now ≡ t.0.now)
+ask_one κs a x y s t p q = step_one a.0.now (asks a.1.0 a.1.1.0) x y _ _ p q
 
-pub returned_one : (κs : Lfts 0) (a : Dens κs returned-kinds.ps) (x y : (res_t returned-kinds.r κs).Denot)
-    (s t : AtExit (ended_of 0 returned-kinds.ps returned-kinds.r) κs)
-    → returned.Post κs a x s → returned.Post κs a y t → x ≡ y
-returned_one κs a x y s t p q = step_one a.0 (returns a.1.0 a.1.1.0 a.1.1.1.0) x y p q
+pub returned_one : (κs : Lfts 1) (a : Dens κs returned-kinds.ps) (x y : (res_t returned-kinds.r κs).Denot)
+    (s t : AtExit (ended_of 1 returned-kinds.ps returned-kinds.r) κs)
+    → returned.Post κs a x s → returned.Post κs a y t → (x ≡ y) × (s.0.now ≡ t.0.now)
+returned_one κs a x y s t p q = step_one a.0.now (returns a.1.0 a.1.1.0 a.1.1.1.0) x y _ _ p q
 
-pub command_one : (κs : Lfts 0) (a : Dens κs command-kinds.ps) (x y : (res_t command-kinds.r κs).Denot)
-    (s t : AtExit (ended_of 0 command-kinds.ps command-kinds.r) κs)
-    → command.Post κs a x s → command.Post κs a y t → x ≡ y
-command_one κs a x y s t p q = step_one a.0 (call_of a.1.0 a.1.1.0) x y p q
+pub command_one : (κs : Lfts 1) (a : Dens κs command-kinds.ps) (x y : (res_t command-kinds.r κs).Denot)
+    (s t : AtExit (ended_of 1 command-kinds.ps command-kinds.r) κs)
+    → command.Post κs a x s → command.Post κs a y t → (x ≡ y) × (s.0.now ≡ t.0.now)
+command_one κs a x y s t p q = step_one a.0.now (call_of a.1.0 a.1.1.0) x y _ _ p q

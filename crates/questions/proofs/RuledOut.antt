@@ -1,18 +1,25 @@
 -- Wrong answers that the contracts of the public functions rule out: the definition that the contract names, worked out for an input
 -- where the wrong answer would be another. That no other answer is allowed there is in OneAnswer.antt. Assumes nothing.
-use Prim.Native.Nat.{ℕ}
+use Prim.Native.Nat.{ℕ, ◌<◌}
 use mathlib.Core.Bool.{Bool, true, false}
 use mathlib.Core.Path.{◌≡◌, refl}
+use native.Mathlib.Omega.{arith}
+use lib.Dec.{leb}
+use borrow.Author.Tests.{le-leb}
+use Rattle.codec.specs.Pick.{pick}
 use Rattle.codec.specs.Sheet.{got, refused}
 use Rattle.codec.specs.Reading.{read_item}
 use Rattle.families.specs.declared.fc.FcCommand.TheVariants.{ForceDisarm}
 use Rattle.families.specs.declared.screen.ScreenCommand.TheVariants.{PopupMessageStart, SelectionReturnValue}
+use Rattle.families.specs.declared.screen.ScreenAdditionalData.{ScreenAdditionalData}
+use Rattle.families.specs.declared.screen.ScreenAdditionalData.TheVariants.{Absent, Empty, Selection}
+use Rattle.families.specs.declared.screen.ScreenPopupFields.{ScreenPopupFields}
 use Rattle.families.specs.declared.screen.ScreenPopup.{ScreenPopup}
 use Rattle.families.specs.declared.payload.CommandPayload.{CommandPayload}
 use Rattle.families.specs.declared.payload.CommandPayload.TheVariants.{Fc, Screen}
 use Rattle.commands.specs.declared.DirectCommands.{DirectCommands}
-use Rattle.questions.specs.Table.{unset, closed, asks, returns, opened, processed, cancelled, expired}
-use Rattle.questions.specs.Kept.{reason_number, state_of, new_question, reply_to, opens, closes, call_of}
+use Rattle.questions.specs.Table.{unset, closed, asks, returns, opened, processed, cancelled, expired, in_range}
+use Rattle.questions.specs.Kept.{reason_number, state_of, new_question, reply_to, opens, closes, call_of, lowest, highest}
 use Rattle.questions.specs.Calls.{kept_next}
 use Rattle.questions.specs.declared.Question.{Question}
 use Rattle.questions.specs.declared.Reason.TheVariants.{Clock, QuestionOpen, NoQuestion, Value}
@@ -220,3 +227,10 @@ popup-asks second = refl
 pub popup_not_made : reply_to (opens 100 choice) (call_of 99 (command (Screen PopupMessageStart) not_made)) ≡ refused 5 0
 unfolding read_item
 popup_not_made = refl
+
+-- ---- a processed value: a byte lies in the range that a popup without a selection has
+pub range_is : (k : ScreenAdditionalData) (f : ScreenPopupFields) (value : ℕ) → value < 256
+    → in_range k f value ≡ pick (leb (lowest k f) value) (leb value (highest k f)) false
+range_is Absent f value l = rw (le-leb 0 value (omega arith), le-leb value 255 (omega arith))
+range_is Empty f value l = rw (le-leb 0 value (omega arith), le-leb value 255 (omega arith))
+range_is Selection f value l = refl

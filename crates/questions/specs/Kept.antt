@@ -1,5 +1,5 @@
 -- What is kept between calls, and a call on it: the table's answer, the state that it tells. Assumes nothing.
-use Rattle.std.specs.Prelude.{ℕ, ◌-◌, Bool, true, false, ◌≡◌, [], leb, eqb}
+use Rattle.std.specs.Prelude.{ℕ, Bool, true, false, ◌≡◌, [], leb, eqb, Option, Some, None, Result, Ok, Err}
 use Rattle.codec.specs.Pick.{pick}
 use Rattle.codec.specs.Sheet.{Answer, got, refused}
 use Rattle.codec.specs.Told.{bit}
@@ -18,8 +18,7 @@ use Rattle.questions.specs.declared.Question.{Question}
 use Rattle.questions.specs.declared.Reason.{Reason}
 use Rattle.questions.specs.declared.Reason.TheVariants.{RecordNotMade, InvalidPayload, Clock as ClockBack, QuestionOpen, NoQuestion, Value}
 use Rattle.questions.specs.declared.Reply.{Reply}
-use Rattle.questions.specs.declared.Reply.TheVariants.{Opened, Processed, Cancelled, Expired, Refused}
-use Rattle.questions.specs.declared.Step.{Step}
+use Rattle.questions.specs.declared.Reply.TheVariants.{Opened, Processed, Cancelled, Expired}
 use Rattle.questions.specs.declared.kept.Terms.{Terms}
 
 -- the number of each name, 01's and 02's
@@ -31,13 +30,13 @@ reason_number QuestionOpen = 28
 reason_number NoQuestion = 29
 reason_number Value = 30
 
--- what a reply tells
-abbrev pub told_reply : Reply → Answer Told
-told_reply Opened = got opened
-told_reply Processed = got processed
-told_reply Cancelled = got cancelled
-told_reply Expired = got expired
-told_reply (Refused why) = refused (reason_number why) 0
+-- what a reply tells, and a refusal
+abbrev pub told_reply : Result Reply Reason → Answer Told
+told_reply (Ok Opened) = got opened
+told_reply (Ok Processed) = got processed
+told_reply (Ok Cancelled) = got cancelled
+told_reply (Ok Expired) = got expired
+told_reply (Err why) = refused (reason_number why) 0
 
 -- the table's state that a kept one tells
 abbrev pub state_of : Question → State
@@ -82,10 +81,10 @@ kept_after q (asks second popup) (got t) = opens second popup
 kept_after q (returns second value response) (got t) = closes second
 kept_after q neither (got t) = q
 
--- A CALL on q
-pub record StepIs (q : Question) (c : Call) (r : Step) : Type 0 where
-  pub reply : told_reply r.reply ≡ reply_to q c
-  pub question : r.question ≡ kept_after q c (reply_to q c)
+-- A CALL on q answers r and leaves q'
+pub record StepIs (q : Question) (c : Call) (r : Result Reply Reason) (q' : Question) : Type 0 where
+  pub reply : told_reply r ≡ reply_to q c
+  pub question : q' ≡ kept_after q c (reply_to q c)
 
 -- THE LINK TO COMMANDS: a popup asks with its stored bytes, a returned value hands on its value and response; of any other command
 -- nothing is looked at
@@ -104,8 +103,7 @@ call_by second (Ack a) popup = neither
 abbrev pub call_of : ℕ → DirectCommands → Call
 call_of second c = call_by second c.payload (record { len = c.len; bytes = c.bytes })
 
--- ---- for the contracts of private functions: what a popup's question goes by, or that there is no sound one. Without a selection any
--- value is in range
+-- ---- for the contracts of private functions: what a popup's question goes by. Without a selection any value is in range
 abbrev pub lowest : ScreenAdditionalData → ScreenPopupFields → ℕ
 lowest Absent f = 0
 lowest Empty f = 0
@@ -116,23 +114,20 @@ highest Absent f = 255
 highest Empty f = 255
 highest Selection f = f.max_value
 
-abbrev pub unsound_terms : Terms
-unsound_terms = record { sound = false; timeout = 0; low = 0; high = 0 }
-
-abbrev pub terms_of : Answer ScreenPopupFields → Terms
-terms_of (got f) = record {
-  sound = true;
+abbrev pub terms_of : ScreenPopupFields → Terms
+terms_of f = record {
   timeout = f.max_timeout_interval;
   low = lowest f.additional_data f;
   high = highest f.additional_data f;
 }
-terms_of (refused n p) = unsound_terms
 
--- of a kept question: whether it is within its limits, and if it is open, what it goes by
-pub record TermsAre (q : Question) (r : Terms) : Type 0 where
-  pub sound : r.sound ≡ in_limits q
-  pub terms : q.«open» ≡ true → r.sound ≡ true → r ≡ terms_of (got (fields_in q.popup))
+-- a popup's: 5 where it is not made
+abbrev pub TermsIn : ScreenPopup → Result Terms Reason → Type 0
+TermsIn p (Ok t) = (made_popup p ≡ true) × (t ≡ terms_of (fields_in p))
+TermsIn p (Err why) = (made_popup p ≡ false) × (why ≡ RecordNotMade)
 
--- whether it is open, and sent at most the timeout before this second
-abbrev pub waits_at : Question → ℕ → ℕ → Bool
-waits_at q second timeout = pick q.«open» (leb (second - q.sent) timeout) false
+-- a kept question's: 5 beyond its limits, none where it is not open, else its popup's
+abbrev pub TermsAre : Question → Result (Option Terms) Reason → Type 0
+TermsAre q (Ok None) = (in_limits q ≡ true) × (q.«open» ≡ false)
+TermsAre q (Ok (Some t)) = (in_limits q ≡ true) × ((q.«open» ≡ true) × (t ≡ terms_of (fields_in q.popup)))
+TermsAre q (Err why) = (in_limits q ≡ false) × (why ≡ RecordNotMade)

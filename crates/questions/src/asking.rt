@@ -1,46 +1,35 @@
 // A popup is sent.
 ghost use Rattle.std.specs.Prelude.{◌≡◌};
 ghost use Rattle.questions.specs.Table.{asks};
-ghost use Rattle.questions.specs.Kept.{opens, StepIs};
-ghost use Rattle.questions.specs.declared.Reply.TheVariants.{Opened};
+ghost use Rattle.questions.specs.Kept.{StepIs};
 
-use crate::{Question, Reason, Reply, Step};
+use crate::{Question, Reason, Reply};
 use families::screen::ScreenPopup;
 
-// One that opens: this popup, sent now.
-fn opened(second: u32, popup: ScreenPopup) -> Step
-    ensures { result ≡ record { reply = Opened; question = opens second popup } }
-{
-    Step {
-        reply: Reply::Opened,
-        question: Question {
+impl Question {
+    pub fn ask(&mut self, second: u32, popup: ScreenPopup) -> Result<Reply, Reason>
+        ensures { StepIs self.old (asks second popup) result self.new }
+    {
+        let terms = self.terms()?;
+        if !families::screen::made(&popup.bytes, popup.len) {
+            return Err(Reason::RecordNotMade);
+        }
+        if second < self.last {
+            return Err(Reason::Clock);
+        }
+        if let Some(terms) = terms
+            && self.waits(second, terms.timeout)
+        {
+            return Err(Reason::QuestionOpen);
+        }
+        // One that opens: this popup, sent now.
+        *self = Question {
             started: true,
             open: true,
             sent: second,
             last: second,
             popup,
-        },
-    }
-}
-
-impl Question {
-    pub fn ask(self, second: u32, popup: ScreenPopup) -> Step
-        ensures { StepIs self (asks second popup) result }
-    {
-        let terms = self.terms();
-        if !terms.sound {
-            return self.refuses(Reason::RecordNotMade);
-        }
-        let bytes = popup.bytes;
-        if !families::screen::made(&bytes, popup.len) {
-            return self.refuses(Reason::RecordNotMade);
-        }
-        if second < self.last {
-            return self.refuses(Reason::Clock);
-        }
-        if self.waits(second, terms.timeout) {
-            return self.refuses(Reason::QuestionOpen);
-        }
-        opened(second, popup)
+        };
+        Ok(Reply::Opened)
     }
 }

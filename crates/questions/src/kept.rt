@@ -1,120 +1,74 @@
 // What is kept between calls: whether it is within its limits, and what an open question goes by.
-ghost use Rattle.std.specs.Prelude.{false, ◌≡◌};
-ghost use Rattle.families.specs.Fields.{inspect};
-ghost use Rattle.questions.specs.Kept.{in_limits, terms_of, TermsAre, waits_at};
+ghost use Rattle.std.specs.Prelude.{false, ◌≡◌, ◌-◌, leb};
+ghost use Rattle.questions.specs.Kept.{in_limits, TermsIn, TermsAre};
 
-use crate::Question;
-use codec::refusal::Outcome;
+use crate::{Question, Reason};
 use families::screen::{ScreenAdditionalData, ScreenPopup};
 
-// What a question goes by: how long it may be answered, and which values a processed return may have. `sound` off: there is no such
-// question.
+// What a question goes by: how long it may be answered, and which values a processed return may have.
 #[derive(Clone, Copy)]
 pub(crate) struct Terms {
-    pub(crate) sound: bool,
     pub(crate) timeout: u8,
     pub(crate) low: u8,
     pub(crate) high: u8,
 }
 
-const UNSOUND: Terms = Terms {
-    sound: false,
-    timeout: 0,
-    low: 0,
-    high: 0,
-};
-
 // Of a popup: one without a selection takes any value.
-fn popup_terms(popup: ScreenPopup) -> Terms
-    ensures { result ≡ terms_of (inspect popup) }
+fn popup_terms(popup: ScreenPopup) -> Result<Terms, Reason>
+    ensures { TermsIn popup result }
 {
-    let read = popup.fields();
-    let outcome = read.outcome;
-    let fields = read.fields;
-    match outcome {
-        Outcome::Accepted => {
-            let kind = fields.additional_data;
-            let timeout = fields.max_timeout_interval;
-            match kind {
-                ScreenAdditionalData::Absent => Terms {
-                    sound: true,
-                    timeout,
-                    low: 0,
-                    high: u8::MAX,
-                },
-                ScreenAdditionalData::Empty => Terms {
-                    sound: true,
-                    timeout,
-                    low: 0,
-                    high: u8::MAX,
-                },
-                ScreenAdditionalData::Selection => Terms {
-                    sound: true,
-                    timeout,
-                    low: fields.min_value,
-                    high: fields.max_value,
-                },
-            }
-        }
-        Outcome::Refused(_) => UNSOUND,
+    let Ok(fields) = popup.fields() else {
+        return Err(Reason::RecordNotMade);
+    };
+    let timeout = fields.max_timeout_interval;
+    match fields.additional_data {
+        ScreenAdditionalData::Selection => Ok(Terms {
+            timeout,
+            low: fields.min_value,
+            high: fields.max_value,
+        }),
+        _ => Ok(Terms {
+            timeout,
+            low: 0,
+            high: u8::MAX,
+        }),
     }
 }
 
 impl Question {
     // Not open: no second and no popup are kept, and before the first accepted call no last second either.
-    fn keeps_nothing(self) -> bool
-        requires { self.«open» ≡ false }
-        ensures { result ≡ in_limits self }
+    fn keeps_nothing(&self) -> bool
+        requires { self.now.«open» ≡ false }
+        ensures { result ≡ in_limits self.now }
     {
-        let popup = self.popup;
-        let bytes = popup.bytes;
-        if self.sent != 0 {
-            return false;
-        }
-        if popup.len != 0 {
-            return false;
-        }
-        if self.started {
-            return families::text::all_zero(&bytes);
-        }
-        if self.last != 0 {
-            return false;
-        }
-        families::text::all_zero(&bytes)
+        self.sent == 0
+            && self.popup.len == 0
+            && (self.started || self.last == 0)
+            && families::text::all_zero(&self.popup.bytes)
     }
 
-    // What is kept, if it is within its limits. Before the first accepted call the last second is 0 there: no second is lower.
-    pub(crate) fn terms(self) -> Terms
-        ensures { TermsAre self result }
+    // What is kept, if it is within its limits: what an open question goes by, none where none is open. Before the first accepted call
+    // the last second is 0 there: no second is lower.
+    pub(crate) fn terms(&self) -> Result<Option<Terms>, Reason>
+        ensures { TermsAre self.now result }
     {
         if !self.open {
-            return Terms {
-                sound: self.keeps_nothing(),
-                timeout: 0,
-                low: 0,
-                high: 0,
-            };
+            if !self.keeps_nothing() {
+                return Err(Reason::RecordNotMade);
+            }
+            return Ok(None);
         }
-        if !self.started {
-            return UNSOUND;
+        if !self.started || self.last < self.sent {
+            return Err(Reason::RecordNotMade);
         }
-        if self.last < self.sent {
-            return UNSOUND;
-        }
-        popup_terms(self.popup)
+        Ok(Some(popup_terms(self.popup)?))
     }
 
-    // Whether a question is open and may still be answered. How long ago it was sent is compared, and no sum: at the largest second that
+    // Whether a question sent then may still be answered. How long ago it was sent is compared, and no sum: at the largest second that
     // would wrap around.
-    pub(crate) fn waits(self, second: u32, timeout: u8) -> bool
-        ensures { result ≡ waits_at self second timeout }
+    pub(crate) fn waits(&self, second: u32, timeout: u8) -> bool
+        ensures { result ≡ leb (second - self.now.sent) timeout }
     {
-        if !self.open {
-            return false;
-        }
-        if second < self.sent {
-            return true;
-        }
-        second - self.sent <= timeout as u32
+        second.saturating_sub(self.sent) <= u32::from(timeout)
     }
 }

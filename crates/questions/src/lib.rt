@@ -3,10 +3,8 @@
 
 ghost use Rattle.std.specs.Prelude.{◌≡◌};
 ghost use Rattle.questions.specs.Table.{neither};
-ghost use Rattle.questions.specs.declared.Reply.TheVariants.{Refused};
 ghost use Rattle.questions.specs.Kept.{reason_number, new_question, StepIs, call_of};
 
-use codec::writer::bit_of;
 use commands::DirectCommands;
 use families::payload::CommandPayload;
 use families::screen::{MAX_POPUP_DATA_LEN, ScreenCommand, ScreenPopup};
@@ -15,8 +13,15 @@ mod asking;
 mod kept;
 mod returning;
 
+// Of no bytes.
+const NO_POPUP: ScreenPopup = ScreenPopup {
+    len: 0,
+    bytes: [0u8; MAX_POPUP_DATA_LEN],
+};
+
 // Between two calls: whether one was accepted, whether a question is open, the second when its popup was sent, the last accepted second,
-// and the popup.
+// and the popup. No Option stands for a flag: any 66 bytes with flags of 0 and 1 are the image of a question, which comes back as it was
+// (include/crsf.h; question_back of question_images).
 #[derive(Clone, Copy)]
 pub struct Question {
     pub started: bool,
@@ -27,7 +32,7 @@ pub struct Question {
 }
 
 // Why a call is refused.
-#[derive(Clone, Copy)]
+#[derive(Clone, Copy, Debug, PartialEq, Eq)]
 pub enum Reason {
     RecordNotMade,
     InvalidPayload,
@@ -38,34 +43,30 @@ pub enum Reason {
 }
 
 // A question opened, or how it closed.
-#[derive(Clone, Copy)]
+#[derive(Clone, Copy, Debug, PartialEq, Eq)]
 pub enum Reply {
     Opened,
     Processed,
     Cancelled,
     Expired,
-    Refused(Reason),
 }
 
-#[derive(Clone, Copy)]
-pub struct Step {
-    pub reply: Reply,
-    pub question: Question,
-}
+impl From<Reason> for u8 {
+    ghost from_gives = { λ why number. number ≡ reason_number why };
 
-pub fn number(why: Reason) -> u8
-    ensures { result ≡ reason_number why }
-{
-    match why {
-        Reason::RecordNotMade => 5,
-        Reason::InvalidPayload => 2,
-        Reason::Clock => 27,
-        Reason::QuestionOpen => 28,
-        Reason::NoQuestion => 29,
-        Reason::Value => 30,
+    fn from(why: Reason) -> u8 {
+        match why {
+            Reason::RecordNotMade => 5,
+            Reason::InvalidPayload => 2,
+            Reason::Clock => 27,
+            Reason::QuestionOpen => 28,
+            Reason::NoQuestion => 29,
+            Reason::Value => 30,
+        }
     }
 }
 
+// Of the refusals of a call: "none changes the state".
 impl Question {
     pub fn new() -> Question
         ensures { result ≡ new_question }
@@ -75,66 +76,36 @@ impl Question {
             open: false,
             sent: 0,
             last: 0,
-            popup: ScreenPopup {
-                len: 0,
-                bytes: [0u8; MAX_POPUP_DATA_LEN],
-            },
-        }
-    }
-
-    // "none changes the state"
-    fn refuses(self, why: Reason) -> Step
-        ensures { result ≡ record { reply = Refused why; question = self } }
-    {
-        Step {
-            reply: Reply::Refused(why),
-            question: self,
+            popup: NO_POPUP,
         }
     }
 
     // A command that is neither a popup nor a returned value.
-    fn neither(self) -> Step
-        ensures { StepIs self neither result }
+    fn neither(&self) -> Result<Reply, Reason>
+        ensures { StepIs self.now neither result self.now }
     {
-        let terms = self.terms();
-        if !terms.sound {
-            return self.refuses(Reason::RecordNotMade);
-        }
-        self.refuses(Reason::InvalidPayload)
+        self.terms()?;
+        Err(Reason::InvalidPayload)
     }
 
     // A command that was sent or has arrived: a popup asks with its stored bytes, a returned value hands on its value and response.
-    pub fn command(self, second: u32, command: DirectCommands) -> Step
-        ensures { StepIs self (call_of second command) result }
+    pub fn command(&mut self, second: u32, command: DirectCommands) -> Result<Reply, Reason>
+        ensures { StepIs self.old (call_of second command) result self.new }
     {
-        let payload = command.payload;
-        let screen = match payload {
-            CommandPayload::Screen(screen) => screen,
-            CommandPayload::Fc(_) => return self.neither(),
-            CommandPayload::Osd(_) => return self.neither(),
-            CommandPayload::Vtx(_) => return self.neither(),
-            CommandPayload::Led(_) => return self.neither(),
-            CommandPayload::General(_) => return self.neither(),
-            CommandPayload::Crossfire(_) => return self.neither(),
-            CommandPayload::FlowControl(_) => return self.neither(),
-            CommandPayload::Ack(_) => return self.neither(),
-        };
-        match screen {
-            ScreenCommand::PopupMessageStart => {
-                let stored = command.bytes;
+        match command.payload {
+            CommandPayload::Screen(ScreenCommand::PopupMessageStart) => {
+                let bytes = command.bytes;
                 self.ask(
                     second,
                     ScreenPopup {
                         len: command.len,
-                        bytes: stored,
+                        bytes,
                     },
                 )
             }
-            ScreenCommand::SelectionReturnValue { value, response } => self.returned(
-                second,
-                value,
-                bit_of(response),
-            ),
+            CommandPayload::Screen(ScreenCommand::SelectionReturnValue { value, response }) =>
+                self.returned(second, value, u8::from(response)),
+            _ => self.neither(),
         }
     }
 }

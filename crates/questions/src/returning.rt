@@ -1,60 +1,48 @@
 // A value is returned.
-ghost use Rattle.std.specs.Prelude.{◌≡◌};
+ghost use Rattle.std.specs.Prelude.{◌≡◌, Ok};
 ghost use Rattle.questions.specs.Table.{returns};
 ghost use Rattle.questions.specs.Kept.{closes, StepIs};
 
-use crate::{Question, Reason, Reply, Step};
-use families::screen::{MAX_POPUP_DATA_LEN, ScreenPopup};
+use crate::{NO_POPUP, Question, Reason, Reply};
 
-// One that closes is kept no longer.
-fn closed(second: u32, reply: Reply) -> Step
-    ensures { result ≡ record { reply = reply; question = closes second } }
-{
-    Step {
-        reply,
-        question: Question {
+impl Question {
+    // One that closes is kept no longer.
+    fn close(&mut self, second: u32, reply: Reply) -> Result<Reply, Reason>
+        ensures { (result ≡ Ok reply) × (self.new ≡ closes second) }
+    {
+        *self = Question {
             started: true,
             open: false,
             sent: 0,
             last: second,
-            popup: ScreenPopup {
-                len: 0,
-                bytes: [0u8; MAX_POPUP_DATA_LEN],
-            },
-        },
+            popup: NO_POPUP,
+        };
+        Ok(reply)
     }
-}
 
-impl Question {
     // Response 1 is processed, 0 cancelled.
-    pub fn returned(self, second: u32, value: u8, response: u8) -> Step
-        ensures { StepIs self (returns second value response) result }
+    pub fn returned(&mut self, second: u32, value: u8, response: u8) -> Result<Reply, Reason>
+        ensures { StepIs self.old (returns second value response) result self.new }
     {
-        let terms = self.terms();
-        if !terms.sound {
-            return self.refuses(Reason::RecordNotMade);
-        }
+        let terms = self.terms()?;
         if 1 < response {
-            return self.refuses(Reason::InvalidPayload);
+            return Err(Reason::InvalidPayload);
         }
         if second < self.last {
-            return self.refuses(Reason::Clock);
+            return Err(Reason::Clock);
         }
-        if !self.open {
-            return self.refuses(Reason::NoQuestion);
-        }
+        let Some(terms) = terms else {
+            return Err(Reason::NoQuestion);
+        };
         if !self.waits(second, terms.timeout) {
-            return closed(second, Reply::Expired);
+            return self.close(second, Reply::Expired);
         }
         if response == 0 {
-            return closed(second, Reply::Cancelled);
+            return self.close(second, Reply::Cancelled);
         }
-        if value < terms.low {
-            return self.refuses(Reason::Value);
+        if value < terms.low || terms.high < value {
+            return Err(Reason::Value);
         }
-        if terms.high < value {
-            return self.refuses(Reason::Value);
-        }
-        closed(second, Reply::Processed)
+        self.close(second, Reply::Processed)
     }
 }

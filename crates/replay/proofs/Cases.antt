@@ -1,4 +1,5 @@
 -- The step, case by case. Assumes nothing.
+use Rattle.std.specs.Prelude.{Option, Some, None, Result, Ok, Err}
 use Prim.Native.Nat.{ℕ, ◌+◌, ◌-◌, ◌<◌, ◌≤◌}
 use mathlib.Core.Bool.{Bool, true, false}
 use mathlib.Core.List.{List, [], ◌∷◌}
@@ -10,60 +11,51 @@ use lib.Dec.{eqb}
 use Rattle.codec.specs.Pick.{pick}
 use Rattle.codec.specs.Sheet.{Answer, got, refused, and_then}
 use Rattle.codec.specs.Refusals.{refusal_number, value_in}
-use Rattle.codec.specs.declared.refusal.Outcome.TheVariants.{Accepted, Refused}
 use Rattle.codec.specs.declared.refusal.Refusal.{Refusal}
-use Rattle.codec.proofs.Refused.{Some, some-got, some-refused}
-use Rattle.commands.specs.Command.{blank_command}
-use Rattle.commands.specs.Reading.{read_command, CommandIs}
+use Rattle.codec.specs.declared.refusal.Refusal.TheVariants.{RecordNotMade}
+use Rattle.codec.proofs.Refused.{Some as Numbered, some-got, some-refused}
+use Rattle.commands.specs.Reading.{CommandIs}
 use Rattle.commands.specs.declared.DirectCommands.{DirectCommands}
-use Rattle.commands.specs.declared.CommandAnswer.{CommandAnswer}
-use Rattle.commands.proofs.Known.{read_some, accepted_is, refused_is}
 use Rattle.blocks.specs.Block.{block_number, Record, records_of}
 use Rattle.blocks.specs.Walk.{first_of, opening, opening_of, Standing, standing, record_at, damage_number, told_judged, told_walked}
 use Rattle.blocks.specs.declared.Damage.{Damage}
-use Rattle.blocks.specs.declared.Judged.{Judged}
-use Rattle.blocks.specs.declared.Judged.TheVariants.{Sound, Damaged}
-use Rattle.blocks.specs.declared.Walked.{Walked}
-use Rattle.blocks.specs.declared.Walked.TheVariants.{Record as Stands, Nothing}
+use Rattle.blocks.specs.declared.Sound.{Sound}
+use Rattle.blocks.specs.declared.Record.{Record as Found}
 use Rattle.blocks.proofs.Walks.{Walks, sound_walks, stands-within}
 use Rattle.replay.specs.Events.{record_event, damaged_event, gap_event, back_event, nothing_event}
 use Rattle.replay.specs.Log.{ordered}
 use Rattle.replay.specs.Step.{sound, before_of, step, beyond, goes_on, in_limits, entering, opens, step_of, Stepped, StepIs, Opens, records_in}
 use Rattle.replay.specs.declared.Event.{Event}
-use Rattle.replay.specs.declared.Kind.TheVariants.{Refused as RefusedRecord}
 use Rattle.replay.specs.declared.Replay.{Replay}
 use Rattle.replay.specs.declared.Step.{Step}
 
 -- ---- a record that is read, or refused: then come place 0 and the blank command
-pub record_read : (b at : ℕ) (p : List ℕ) (x : CommandAnswer) → CommandIs (read_command p) x → x.outcome ≡ Accepted
-    → record_event b at (got x.command) ≡ record_event b at (read_command p)
-record_read b at p x h e = ap (λ (a : Answer DirectCommands). record_event b at a) (sym (accepted_is (read_command p) x (read_some p) h e))
+pub record_read : (b at : ℕ) (a : Answer DirectCommands) (c : DirectCommands) → CommandIs a (Ok c) → record_event b at (got c) ≡ record_event b at a
+record_read b at (got x) c h = ap (λ (d : DirectCommands). record_event b at (got d)) h
+record_read b at (refused n p) c h = absurd h
 
-refused-event : (b at n : ℕ) (c : DirectCommands) (a : Answer DirectCommands) → a ≡ refused n 0 → c ≡ value_in blank_command a
-    → ◌≡◌ {A = Event} (record { kind = RefusedRecord; block = b; place = at; number = n; payload_place = 0; command = c }) (record_event b at a)
-refused-event b at n c a e f = let g : c ≡ blank_command = rw e at f in rw (e, g)
-
-pub record_refused : (b at : ℕ) (p : List ℕ) (x : CommandAnswer) (why : Refusal) (n : ℕ) → CommandIs (read_command p) x
-    → x.outcome ≡ Refused why → n ≡ refusal_number why
-    → ◌≡◌ {A = Event} (record { kind = RefusedRecord; block = b; place = at; number = n; payload_place = 0; command = x.command })
-    (record_event b at (read_command p))
-record_refused b at p x why n h e f =
-    let g = refused_is (read_command p) x why h e in
-    let z = read_some p (refusal_number why) g.0 g.1 in
-    refused-event b at n x.command (read_command p) (g.1 ∙ ap (λ (k : ℕ). refused (refusal_number why) k) z.1 ∙ ap (λ (k : ℕ). refused k 0) (sym f)) h.1
+pub record_refused : (b at : ℕ) (a : Answer DirectCommands) (why : Refusal) (n : ℕ) → Numbered a → CommandIs a (Err why) → n ≡ refusal_number why
+    → record_event b at (refused n 0) ≡ record_event b at a
+record_refused b at (got c) why n some h e = absurd h
+record_refused b at (refused m p) why n some h e = let z = (some m p refl).1 in rw (e, h, z)
 
 -- ---- the record at the state's place
-module _ (s : Replay) (b : List ℕ) (w : Walked) (told : told_walked w ≡ record_at b s.place) (r : Step) where
-  pub goes_none : w ≡ Nothing → StepIs (beyond s) r → StepIs (goes_on s b (record_at b s.place)) r
-  goes_none e h = rw (← told, e) h
+goes_none_by : (s : Replay) (b : List ℕ) (w : Option Found) → w ≡ None → StepIs (goes_on s b (told_walked w)) (Err RecordNotMade)
+goes_none_by s b None e = refl
+goes_none_by s b (Some r) e = let z : ◌≡◌ {A = ℕ} 0 1 = cc in absurd (omega arith)
 
-  pub goes_record : (n end next : ℕ) → w ≡ Stands n end next → StepIs (goes_on s b (got (standing n end next))) r
+module _ (s : Replay) (b : List ℕ) (w : Option Found) (told : told_walked w ≡ record_at b s.place) where
+  pub goes_none : w ≡ None → StepIs (goes_on s b (record_at b s.place)) (Err RecordNotMade)
+  goes_none e = rw (← told) (goes_none_by s b w e)
+
+  pub goes_record : (f : Found) → w ≡ Some f → (r : Result Step Refusal) → StepIs (goes_on s b (got (standing f.number f.end f.next))) r
       → StepIs (goes_on s b (record_at b s.place)) r
-  goes_record n end next e h = rw (← told, e) h
+  goes_record f e r h = rw (← told, e) h
 
-pub goes-within : (b : List ℕ) (at n end next : ℕ) (w : Walked) → told_walked w ≡ record_at b at → w ≡ Stands n end next
-    → (at + 1 ≤ end) × ((end ≤ length b) × (length b ≡ 512))
-goes-within b at n end next w told e = let k = stands-within b at n end next (sym told ∙ ap told_walked e) in (k.1.0, (k.1.1.0, k.1.1.1.0))
+pub goes-within : (b : List ℕ) (at : ℕ) (f : Found) (w : Option Found) → told_walked w ≡ record_at b at → w ≡ Some f
+    → (at + 1 ≤ f.end) × ((f.end ≤ length b) × (length b ≡ 512))
+goes-within b at f w told e =
+    let k = stands-within b at f.number f.end f.next (sym told ∙ ap told_walked e) in (k.1.0, (k.1.1.0, k.1.1.1.0))
 
 -- ---- a sound block has the records that what it opens with speaks of
 opening-records : (a : Answer (List Record)) (n m first : ℕ) → and_then a (λ rs. got (opening n (first_of rs))) ≡ got (opening m first)
@@ -89,10 +81,10 @@ module _ (s : Replay) (b : List ℕ) (t : s.started ≡ true) (o : Opens s.numbe
       let e : records_in b ≡ k.0 = ap (value_in []) k.1.0 in
       rw e (begins-by s b k.0 t k.1.1.0 k.1.1.1 (sound_walks b k.0 k.1.0))
 
-  pub begins-nothing : s.place ≡ 0 → (r : Step) → StepIs (step s (nothing_event s.number)) r → StepIs (entering [] s.number (records_in b)) r
+  pub begins-nothing : s.place ≡ 0 → (r : Result Step Refusal) → StepIs (step s (nothing_event s.number)) r → StepIs (entering [] s.number (records_in b)) r
   begins-nothing z r h = subst (λ (x : Stepped). StepIs x r) (begins.0 z) h
 
-  pub begins_record : (s.place ≡ 0 → ⊥) → (r : Step) → StepIs (goes_on s b (record_at b s.place)) r
+  pub begins_record : (s.place ≡ 0 → ⊥) → (r : Result Step Refusal) → StepIs (goes_on s b (record_at b s.place)) r
       → StepIs (entering [] s.number (records_in b)) r
   begins_record z r h = subst (λ (x : Stepped). StepIs x r) (begins.1 z) h
 
@@ -109,14 +101,14 @@ ordered_gap s n e l m = rw (e, ne_eqb n (s.number + 1) (λ f. omega arith), lt-l
 ordered-next : (s : Replay) (n : ℕ) → s.started ≡ true → s.number < n → n - s.number ≤ 1 → ordered (before_of s) n ≡ []
 ordered-next s n e l m = rw (e, eq-eqb n (s.number + 1) (omega arith))
 
-module _ (s : Replay) (n first : ℕ) (b : List ℕ) (o : Opens n first b) (r : Step) where
+module _ (s : Replay) (n first : ℕ) (b : List ℕ) (o : Opens n first b) (r : Result Step Refusal) where
   -- not in order: that is said, and the records come next
   reported : (e : Event) → ordered (before_of s) n ≡ e ∷ [] → StepIs (step (sound n first) e) r
       → StepIs (entering (ordered (before_of s) n) n (records_in b)) r
   reported e f h =
       let k = opening-records (records_of b) (block_number b) n first o in
       let g : first_of (records_in b) ≡ first = ap (λ (a : Answer (List Record)). first_of (value_in [] a)) k.1.0 ∙ sym k.1.1.1 in
-      rw (f, g) h
+      rw f (subst (λ (m : ℕ). StepIs (step (sound n m) e) r) (sym g) h)
 
   pub enters_back : s.started ≡ true → n ≤ s.number → StepIs (step (sound n first) (back_event n)) r
       → StepIs (entering (ordered (before_of s) n) n (records_in b)) r
@@ -134,44 +126,44 @@ module _ (s : Replay) (n first : ℕ) (b : List ℕ) (o : Opens n first b) (r : 
   enters_next e l m h = rw (ordered-next s n e l m) h
 
 -- ---- a new block, by its verdict
-pub sound-opens : (b : List ℕ) (j : Judged) (n first : ℕ) → told_judged j ≡ opening_of b → j ≡ Sound n first → Opens n first b
-sound-opens b j n first t e = sym t ∙ ap told_judged e
+pub sound-opens : (b : List ℕ) (j : Result Sound Damage) (f : Sound) → told_judged j ≡ opening_of b → j ≡ Ok f → Opens f.number f.first b
+sound-opens b j f t e = sym t ∙ ap told_judged e
 
 damage_is : (a : Answer (List Record)) (n k : ℕ) → refused k 0 ≡ and_then a (λ rs. got (opening n (first_of rs))) → a ≡ refused k 0
 damage_is (got rs) n k e = let z : ◌≡◌ {A = ℕ} 0 1 = cc in absurd (omega arith)
 damage_is (refused m p) n k e = let f : k ≡ m = cc in let g : 0 ≡ p = cc in rw (f, g)
 
-module _ (s : Replay) (position : ℕ) (b : List ℕ) (j : Judged) (told : told_judged j ≡ opening_of b) (r : Step) where
-  pub opens_damaged : (d : Damage) → j ≡ Damaged d → StepIs (step s (damaged_event position (damage_number d))) r
+module _ (s : Replay) (position : ℕ) (b : List ℕ) (j : Result Sound Damage) (told : told_judged j ≡ opening_of b) (r : Result Step Refusal) where
+  pub opens_damaged : (d : Damage) → j ≡ Err d → StepIs (step s (damaged_event position (damage_number d))) r
       → StepIs (opens s position (block_number b) (records_of b)) r
   opens_damaged d e h = rw (damage_is (records_of b) (block_number b) (damage_number d) (sym (ap told_judged e) ∙ told)) h
 
-  pub opens-sound : (n first : ℕ) → j ≡ Sound n first → StepIs (entering (ordered (before_of s) n) n (records_in b)) r
+  pub opens-sound : (v : Sound) → j ≡ Ok v → StepIs (entering (ordered (before_of s) v.number) v.number (records_in b)) r
       → StepIs (opens s position (block_number b) (records_of b)) r
-  opens-sound n first e h =
-      let k = opening-records (records_of b) (block_number b) n first (sound-opens b j n first told e) in
+  opens-sound v e h =
+      let k = opening-records (records_of b) (block_number b) v.number v.first (sound-opens b j v told e) in
       let f : records_in b ≡ k.0 = ap (value_in []) k.1.0 in
       let g : StepIs (entering (ordered (before_of s) (block_number b)) (block_number b) k.0) r = rw (k.1.1.0, f) at h in
       rw k.1.0 g
 
 -- ---- a step refuses with 5 and place 0, if at all
-entering-some : (es : List Event) (n : ℕ) (rs : List Record) → Some (entering es n rs).says
+entering-some : (es : List Event) (n : ℕ) (rs : List Record) → Numbered (entering es n rs).says
 entering-some (e ∷ es) n rs = some-got e
 entering-some [] n [] = some-got _
 entering-some [] n (r ∷ rs) = some-got _
 
-opens-some : (s : Replay) (position n : ℕ) (a : Answer (List Record)) → Some (opens s position n a).says
+opens-some : (s : Replay) (position n : ℕ) (a : Answer (List Record)) → Numbered (opens s position n a).says
 opens-some s position n (got rs) = entering-some (ordered (before_of s) n) n rs
 opens-some s position n (refused k p) = some-got _
 
-goes_some : (s : Replay) (b : List ℕ) (a : Answer Standing) → Some (goes_on s b a).says
+goes_some : (s : Replay) (b : List ℕ) (a : Answer Standing) → Numbered (goes_on s b a).says
 goes_some s b (got (standing n end next)) = some-got _
 goes_some s b (refused k p) = some-refused 5 (omega arith)
 
-pub step-some : (s : Replay) (position : ℕ) (b : List ℕ) → Some (step_of s position b).says
+pub step-some : (s : Replay) (position : ℕ) (b : List ℕ) → Numbered (step_of s position b).says
 step-some s position b = by (in_limits s) (eqb s.place 0)
   where
-    by : (x y : Bool) → Some (pick x (pick y (opens s position (block_number b) (records_of b)) (goes_on s b (record_at b s.place))) (beyond s)).says
+    by : (x y : Bool) → Numbered (pick x (pick y (opens s position (block_number b) (records_of b)) (goes_on s b (record_at b s.place))) (beyond s)).says
     by true true = opens-some s position (block_number b) (records_of b)
     by true false = goes_some s b (record_at b s.place)
     by false y = some-refused 5 (omega arith)

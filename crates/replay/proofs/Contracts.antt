@@ -1,5 +1,6 @@
 -- The theorem of any blocks, of whatever meets the contract of `next`, called for one event after the other. `Post` is the contract as the
 -- check reads it from the source, and no copy of it. Assumes nothing.
+use Rattle.std.specs.Prelude.{Result, Ok, Err}
 use Prim.Native.Nat.{ℕ}
 use mathlib.Core.Bool.{true}
 use mathlib.Core.List.{List, [], ◌∷◌, ◌++◌, append_assoc}
@@ -12,8 +13,7 @@ use borrow.Fn.Kinds.{Dens, res_t, ended_of}
 use denote.Triple.Clauses.{AtExit}
 use Rattle.codec.specs.Pick.{pick}
 use Rattle.codec.specs.Sheet.{Answer, got, refused}
-use Rattle.codec.specs.declared.refusal.Outcome.TheVariants.{Accepted}
-use Rattle.codec.proofs.Outcomes.{outcome_one}
+use Rattle.codec.specs.declared.refusal.Refusal.{Refusal}
 use Rattle.commands.specs.Reading.{read_command}
 use Rattle.blocks.specs.Block.{block_number, Record, records_of}
 use Rattle.blocks.specs.Walk.{first_of, Standing}
@@ -24,6 +24,7 @@ use Rattle.replay.specs.Step.{sound, before_of, in_limits, Stepped, step, enteri
 use Rattle.replay.specs.Through.{told, between, last_of}
 use Rattle.replay.specs.declared.Event.{Event}
 use Rattle.replay.specs.declared.Replay.{Replay}
+use Rattle.replay.specs.declared.Step.{Step}
 use Rattle.replay.proofs.AnyBlocks.{passed, told_record, step-inside, Reported, nothing, report, reported, step-between, before-between, at_rest}
 use Rattle.replay.proofs.Replay.new.Reads as new
 use Rattle.replay.proofs.Replay.new.Kinds as new-kinds
@@ -161,6 +162,23 @@ module _ (position : ℕ) (b : List ℕ) (hs : List Handed) where
   one_step s es l (inside (r, (rs, (w, (x, (y, z)))))) = moved s (sound (block_number b) r.place) es _ l _ x y z (from-inside r rs w)
 
 -- ---- `next`, called for one event after the other
+-- what an answer tells; the state that it leaves, which is the one that was handed in where it refuses; and that it does not refuse
+abbrev pub told_of : Result Step Refusal → List Event
+told_of (Ok x) = told x.event
+told_of (Err r) = []
+
+abbrev pub left : Replay → Result Step Refusal → Replay
+left s (Ok x) = x.state
+left s (Err r) = s
+
+abbrev pub Accepts : Result Step Refusal → Type 0
+Accepts (Ok x) = Unit {0}
+Accepts (Err r) = ⊥
+
+came : (x : Result Step Refusal) (s t : Replay) (e : Event) → StepIs (step s e) x → (told_of x ≡ told e) × ((left t x ≡ s) × Accepts x)
+came (Ok x) s t e h = (ap (λ (y : Step). told y.event) h, (ap (λ (y : Step). y.state) h, tt))
+came (Err r) s t e h = absurd h
+
 -- a call: what the function was handed, what it answered, and what it left, all that is known of it being its contract
 pub record Call (κs : Lfts 1) : Type 0 where
   pub given : Dens κs next-kinds.ps
@@ -177,20 +195,20 @@ module _ (κs : Lfts 1) where
   InTurn s (h ∷ hs) [] = ⊥
   InTurn s (handed position b ∷ hs) (k ∷ ks) =
       (k.given.0 ≡ s) × ((k.given.1.0 ≡ position) × ((k.given.1.1.0.now ≡ b)
-      × InTurn k.answer.state (blocks_left k.answer.state (handed position b) hs) ks))
+      × InTurn (left s k.answer) (blocks_left (left s k.answer) (handed position b) hs) ks))
 
   -- what they tell, the state after them, and that none refuses
   abbrev pub told_by : List (Call κs) → List Event
   told_by [] = []
-  told_by (k ∷ ks) = told k.answer.event ++ told_by ks
+  told_by (k ∷ ks) = told_of k.answer ++ told_by ks
 
   abbrev pub state_after : Replay → List (Call κs) → Replay
   state_after s [] = s
-  state_after s (k ∷ ks) = state_after k.answer.state ks
+  state_after s (k ∷ ks) = state_after (left s k.answer) ks
 
   abbrev pub NoneRefuses : List (Call κs) → Type 0
   NoneRefuses [] = Unit {0}
-  NoneRefuses (k ∷ ks) = (k.answer.outcome ≡ Accepted) × NoneRefuses ks
+  NoneRefuses (k ∷ ks) = Accepts k.answer × NoneRefuses ks
 
   abbrev Through : Replay → List (Call κs) → List Event → Before → Type 0
   Through s ks es l = (told_by ks ≡ es) × ((state_after s ks ≡ between l) × NoneRefuses ks)
@@ -208,12 +226,11 @@ module _ (κs : Lfts 1) where
       (subst (λ (c : List ℕ). StepIs (step_of s position c) k.answer) g
       (subst (λ (n : ℕ). StepIs (step_of s n k.given.1.1.0.now) k.answer) f
       (subst (λ (t : Replay). StepIs (step_of t k.given.1.0 k.given.1.1.0.now) k.answer) e k.meets))) in
-      let t = k.answer.state in
+      let j = came k.answer o.state s o.event i in
+      let t = left s k.answer in
       let r = calls-from ks t (blocks_left t (handed position b) hs) o.events l h
-      (subst (λ (u : Replay). At u (blocks_left u (handed position b) hs) o.events l) (sym i.state) o.goes_on) in (
-        ap₂ (λ (x : Event) (fs : List Event). told x ++ fs) i.event r.0 ∙ sym o.tells,
-        (r.1.0, (outcome_one k.answer.outcome Accepted i.outcome, r.1.1)),
-      )
+      (subst (λ (u : Replay). At u (blocks_left u (handed position b) hs) o.events l) (sym j.1.0) o.goes_on) in
+      (ap₂ (λ (fs gs : List Event). fs ++ gs) j.0 r.0 ∙ sym o.tells, (r.1.0, (j.1.1, r.1.1)))
 
   -- THE theorem: for any state between blocks, and any blocks of any bytes, they tell exactly the events of the blocks, in order; none
   -- refuses; and the state after them is between blocks, after the last sound one

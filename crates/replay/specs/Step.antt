@@ -1,8 +1,9 @@
 -- One step through a log: the next event of a block, and the state that is kept between events. Assumes nothing.
-use Rattle.std.specs.Prelude.{ℕ, Bool, true, false, ◌≡◌, List, [], ◌∷◌, leb, eqb}
+use Rattle.std.specs.Prelude.{Result, ℕ, Bool, true, false, ◌≡◌, List, [], ◌∷◌, leb, eqb}
 use Rattle.codec.specs.Pick.{pick}
 use Rattle.codec.specs.Sheet.{Answer, got, refused}
-use Rattle.codec.specs.Refusals.{outcome_number, number_in, value_in}
+use Rattle.codec.specs.Refusals.{Gives, value_in}
+use Rattle.codec.specs.declared.refusal.Refusal.{Refusal}
 use Rattle.commands.specs.Reading.{read_command}
 use Rattle.blocks.specs.Block.{first_place, check_place, block_number, Record, records_of}
 use Rattle.blocks.specs.Walk.{first_of, opening, opening_of, Standing, standing, record_at, payload_in}
@@ -68,14 +69,16 @@ step_of s position b =
     (pick (eqb s.place 0) (opens s position (block_number b) (records_of b)) (goes_on s b (record_at b s.place)))
     (beyond s)
 
--- with a number comes the blank event
+-- the event where there is none
 abbrev pub blank_event : Event
 blank_event = nothing_event 0
 
-pub record StepIs (t : Stepped) (r : Step) : Type 0 where
-  pub outcome : outcome_number r.outcome ≡ number_in t.says
-  pub state : r.state ≡ t.state
-  pub event : r.event ≡ value_in blank_event t.says
+abbrev pub after_step : Replay → Event → Step
+after_step s e = record { state = s; event = e }
+
+-- a step GIVES its state and event, or the number that refuses it: then there is neither, and the state stays with the caller as it was
+abbrev pub StepIs : Stepped → Result Step Refusal → Type 0
+StepIs t r = Gives (λ e. after_step t.state e) t.says r
 
 -- ---- for the contracts of private functions: a sound block of this number, whose first record is at this place
 abbrev pub Opens : ℕ → ℕ → List ℕ → Type 0

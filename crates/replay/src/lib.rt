@@ -7,14 +7,15 @@ ghost use Rattle.blocks.specs.Block.{block_number, records_of};
 ghost use Rattle.blocks.specs.Walk.{record_at};
 ghost use Rattle.replay.specs.Events.{record_event, block_event};
 ghost use Rattle.replay.specs.Log.{ordered};
-ghost use Rattle.replay.specs.Step.{new_replay, before_of, in_limits, step, beyond, entering, opens, goes_on, step_of, StepIs, Opens, records_in};
+ghost use Rattle.replay.specs.Step.{new_replay, before_of, in_limits, after_step, entering, opens, goes_on, step_of, StepIs, Opens, records_in};
 
-use blocks::{CHECK, FIRST_RECORD, Judged, Walked};
-use codec::refusal::{Outcome, Refusal};
+use blocks::{CHECK, FIRST_RECORD};
+use codec::refusal::Refusal;
 use commands::DirectCommands;
 
 // Between two events: whether a sound block has come, the number of the last one, and the place of the next record's length byte,
-// 0 where a new block is to come.
+// 0 where a new block is to come. A flag and a number, and no Option: `next` is handed states beyond their limits and answers 5
+// (must-fail/number_unstarted, place_unstarted), which an Option could not say; and the image has all three (include/crsf.h).
 #[derive(Clone, Copy)]
 pub struct Replay {
     pub started: bool,
@@ -32,7 +33,8 @@ pub enum Kind {
     Back,
 }
 
-// An event has its block's number, a damaged block's the caller's position. What it does not have is 0, or the blank command.
+// An event has its block's number, a damaged block's the caller's position. What it does not have is 0, or the blank command: so its image
+// has it (include/crsf.h), whose parts are there whatever the kind, and so the theorems speak of its fields; hence no enum with values.
 #[derive(Clone, Copy)]
 pub struct Event {
     pub kind: Kind,
@@ -43,9 +45,9 @@ pub struct Event {
     pub command: DirectCommands,
 }
 
+// The state after an event. Where a step is refused there is neither: the caller's own state stays as it was.
 #[derive(Clone, Copy)]
 pub struct Step {
-    pub outcome: Outcome,
     pub state: Replay,
     pub event: Event,
 }
@@ -64,15 +66,11 @@ fn block_event(kind: Kind, block: u32, number: u8) -> Event
     }
 }
 
-// With a refusal the reader hands out the blank command.
 fn record_event(block: u32, place: usize, payload: &[u8]) -> Event
     ensures { result ≡ record_event block place (read_command payload.now) }
 {
-    let read = DirectCommands::from_bytes(payload);
-    let outcome = read.outcome;
-    let command = read.command;
-    match outcome {
-        Outcome::Accepted => Event {
+    match DirectCommands::from_bytes(payload) {
+        Ok(command) => Event {
             kind: Kind::Command,
             block,
             place,
@@ -80,13 +78,13 @@ fn record_event(block: u32, place: usize, payload: &[u8]) -> Event
             payload_place: 0,
             command,
         },
-        Outcome::Refused(why) => Event {
+        Err(why) => Event {
             kind: Kind::Refused,
             block,
             place,
-            number: codec::refusal::number(why),
+            number: u8::from(why),
             payload_place: 0,
-            command,
+            command: DirectCommands::blank(),
         },
     }
 }
@@ -107,74 +105,51 @@ impl Replay {
         ensures { result ≡ in_limits self }
     {
         if self.started {
-            if self.place == 0 {
-                return true;
-            }
-            if self.place < FIRST_RECORD {
-                return false;
-            }
-            return self.place <= CHECK;
+            return self.place == 0 || (FIRST_RECORD <= self.place && self.place <= CHECK);
         }
-        if self.number == 0 {
-            return self.place == 0;
-        }
-        false
-    }
-
-    // 5, and the state as it was.
-    fn beyond(self) -> Step
-        ensures { StepIs (beyond self) result }
-    {
-        Step {
-            outcome: Outcome::Refused(Refusal::RecordNotMade),
-            state: self,
-            event: block_event(Kind::Nothing, 0, 0),
-        }
+        self.number == 0 && self.place == 0
     }
 
     // What is said of a block as a whole, and the state after it.
     fn says(self, kind: Kind, block: u32, number: u8) -> Step
-        ensures { StepIs (step self (block_event kind block number)) result }
+        ensures { result ≡ after_step self (block_event kind block number) }
     {
         Step {
-            outcome: Outcome::Accepted,
             state: self,
             event: block_event(kind, block, number),
         }
     }
 
     // The record at the state's place.
-    fn go_on(self, block: &[u8]) -> Step
+    fn go_on(self, block: &[u8]) -> Result<Step, Refusal>
         ensures { StepIs (goes_on self block.now (record_at block.now self.place)) result }
     {
         let place = self.place;
-        match blocks::record_at(block, place) {
-            Walked::Nothing => self.beyond(),
-            Walked::Record { number, end, next } => Step {
-                outcome: Outcome::Accepted,
-                state: Replay {
-                    started: self.started,
-                    number: self.number,
-                    place: next,
-                },
-                event: record_event(number, place, &block[place + 1..end]),
+        let Some(record) = blocks::record_at(block, place) else {
+            return Err(Refusal::RecordNotMade);
+        };
+        Ok(Step {
+            state: Replay {
+                place: record.next,
+                ..self
             },
-        }
+            event: record_event(record.number, place, &block[place + 1..record.end]),
+        })
     }
 
     // A sound block in order: its first record, or that it has none.
-    fn begin(self, block: &[u8]) -> Step
+    fn begin(self, block: &[u8]) -> Result<Step, Refusal>
         requires { (self.started ≡ true) × Opens self.number self.place block.now }
         ensures { StepIs (entering [] self.number (records_in block.now)) result }
     {
         if self.place == 0 {
-            return self.says(Kind::Nothing, self.number, 0);
+            return Ok(self.says(Kind::Nothing, self.number, 0));
         }
         self.go_on(block)
     }
 
     // A sound block of this number: a gap or a step back comes before its records.
-    fn enter(self, number: u32, first: usize, block: &[u8]) -> Step
+    fn enter(self, number: u32, first: usize, block: &[u8]) -> Result<Step, Refusal>
         requires { Opens number first block.now }
         ensures { StepIs (entering (ordered (before_of self) number) number (records_in block.now)) result }
     {
@@ -187,30 +162,30 @@ impl Replay {
             return entered.begin(block);
         }
         if number <= self.number {
-            return entered.says(Kind::Back, number, 0);
+            return Ok(entered.says(Kind::Back, number, 0));
         }
         if 1 < number - self.number {
-            return entered.says(Kind::Gap, number, 0);
+            return Ok(entered.says(Kind::Gap, number, 0));
         }
         entered.begin(block)
     }
 
     // A new block.
-    fn open(self, position: u32, block: &[u8]) -> Step
+    fn open(self, position: u32, block: &[u8]) -> Result<Step, Refusal>
         ensures { StepIs (opens self position (block_number block.now) (records_of block.now)) result }
     {
         match blocks::judge(block) {
-            Judged::Damaged(damage) => self.says(Kind::Damaged, position, blocks::number(damage)),
-            Judged::Sound { number, first } => self.enter(number, first, block),
+            Ok(sound) => self.enter(sound.number, sound.first, block),
+            Err(damage) => Ok(self.says(Kind::Damaged, position, u8::from(damage))),
         }
     }
 
     // The next event of a block, which is handed in again while there is more: while the state has a place.
-    pub fn next(self, position: u32, block: &[u8]) -> Step
+    pub fn next(self, position: u32, block: &[u8]) -> Result<Step, Refusal>
         ensures { StepIs (step_of self position block.now) result }
     {
         if !self.in_limits() {
-            return self.beyond();
+            return Err(Refusal::RecordNotMade);
         }
         if self.place == 0 {
             return self.open(position, block);

@@ -2,47 +2,16 @@
 // and `end` with the number of its blocks.
 #![tactic(auto)]
 
-ghost use Rattle.std.specs.Prelude.{◌≤◌, length};
-
-use codec::writer::Written;
+use blocks::BLOCK_SIZE;
 use replay::Replay;
-
-const BLOCK_SIZE: usize = 512;
-
-// More blocks than the two length bytes of a case can say.
-const MOST_BLOCKS: u32 = 200;
 
 // For a case's log, and for the lines of one of its blocks.
 const ROOM: usize = 65536;
 
-#[derive(Clone, Copy)]
-enum Case {
-    Bytes(usize),
-    Cut,
-    End,
-}
-
-fn wide(byte: u8) -> usize
-    ensures { result ≤ 255 }
-{
-    byte as usize
-}
-
-// Where the block that begins at a place ends.
-fn end_of(len: usize, from: usize) -> usize
-    requires { from ≤ len }
-    ensures { (from ≤ result) × (result ≤ len) }
-{
-    if len - from < BLOCK_SIZE {
-        return len;
-    }
-    from + BLOCK_SIZE
-}
-
 // The first bytes of a text; what would be missing is told by the comparison.
 fn write(rt: &HostRuntime, text: &[u8], len: usize) {
-    if len <= text.len() {
-        let _ = rt.write_all(&text[..len]);
+    if let Some(lines) = text.get(..len) {
+        let _ = rt.write_all(lines);
     }
 }
 
@@ -53,72 +22,36 @@ fn replay_block(
     block: &[u8],
     text: &mut [u8],
 ) -> Replay {
-    let lines = replay_lines::list_block(state, position, block, text);
-    write(rt, text, lines.len);
-    lines.state
+    match replay_lines::list_block(state, position, block, text) {
+        Ok(lines) => {
+            write(rt, text, lines.len);
+            lines.state
+        }
+        Err(_) => state,
+    }
 }
 
-fn close(rt: &HostRuntime, blocks: u32, text: &mut [u8]) {
-    match replay_lines::put_end(blocks as u64, text) {
-        Written::Count(len) => write(rt, text, len),
-        Written::Refused(_) => return,
+fn close(rt: &HostRuntime, blocks: usize, text: &mut [u8]) {
+    if let Ok(len) = replay_lines::put_end(blocks as u64, text) {
+        write(rt, text, len);
     }
 }
 
 fn replay_log(rt: &HostRuntime, log: &[u8], text: &mut [u8]) {
     let mut state = Replay::new();
-    let mut from: usize = 0;
-    for position in 0..MOST_BLOCKS {
-        if log.len() <= from {
-            close(rt, position, text);
-            return;
-        }
-        let end = end_of(log.len(), from);
-        state = replay_block(rt, state, position, &log[from..end], text);
-        from = end;
+    for (position, block) in (0u32..).zip(log.chunks(BLOCK_SIZE)) {
+        state = replay_block(rt, state, position, block, text);
     }
-}
-
-// A case's bytes, at the start of `space`.
-fn read_case(rt: &HostRuntime, space: &mut [u8]) -> Case {
-    let mut head = [0u8; 2];
-    let got = console::read_full(rt, &mut head);
-    if got == 0 {
-        return Case::End;
-    }
-    let len = wide(head[0]) * 256 + wide(head[1]);
-    if space.len() < len {
-        return Case::Cut;
-    }
-    let read = console::read_full(rt, &mut space[..len]);
-    if read < len {
-        return Case::Cut;
-    }
-    Case::Bytes(len)
-}
-
-// One case; false where there is none.
-fn next_case(rt: &HostRuntime, space: &mut [u8], text: &mut [u8]) -> bool {
-    match read_case(rt, space) {
-        Case::Bytes(len) => {
-            if len <= space.len() {
-                replay_log(rt, &space[..len], text);
-            }
-            true
-        }
-        Case::Cut => {
-            let _ = rt.write_all(b"a case is cut\n");
-            false
-        }
-        Case::End => false,
-    }
+    close(rt, log.len().div_ceil(BLOCK_SIZE), text);
 }
 
 // A proved loop has to end, and nothing says that the input does: no list has as many cases as this loop has turns.
 fn replay_cases(rt: &HostRuntime, space: &mut [u8], text: &mut [u8]) {
-    let mut turns = u64::MAX;
-    while turns > 0 && next_case(rt, space, text) {
-        turns -= 1;
+    for _ in 0..u64::MAX {
+        let Some(log) = console::next_case(rt, space) else {
+            return;
+        };
+        replay_log(rt, log, text);
     }
 }
 

@@ -13,7 +13,10 @@ use Rattle.codec.proofs.Digits.{split-high}
 use Rattle.codec.proofs.Writes.{put_first, put-start, put_on}
 use Rattle.images.specs.Record.{record_image}
 use Rattle.images.proofs.RecordLaws.{record_size_lem}
+use denote.Enum.Declared.{tag_of}
+use Rattle.replay.specs.contracts.Kind.{the_type}
 use Rattle.replay.specs.declared.Kind.{Kind}
+use Rattle.replay.specs.declared.Kind.TheVariants.{Nothing, Command, Refused, Damaged, Gap, Back}
 use Rattle.replay.specs.declared.Event.{Event}
 use Rattle.replay.specs.declared.Replay.{Replay}
 use Rattle.replay_images.specs.State.{state_image}
@@ -36,11 +39,25 @@ state-put t s s1 s2 s3 a l e f g h =
     let three = put_on s s2 s3 (bit t.started ∷ n) (bytes_of 2 t.place) 5 two p refl (omega arith) in
     three ∙ sym (put_first s (state_image t) (omega arith))
 
-pub head-put : (k : Kind) (more : Bool) (block place number at : ℕ) (s s1 s2 s3 s4 s5 s6 : List ℕ) (a b : ℕ) → 80 ≤ length s
-    → a ≡ kind_number k → b ≡ bit more
-    → s1 ≡ put_at s 0 (a ∷ []) → s2 ≡ put_at s1 1 (b ∷ []) → s3 ≡ put_at s2 2 (bytes_of 4 block) → s4 ≡ put_at s3 6 (bytes_of 2 (place % 65536))
-    → s5 ≡ put_at s4 8 (number ∷ []) → s6 ≡ put_at s5 9 (at ∷ []) → s6 ≡ sets s 0 (head_image k more block place number at)
-head-put k more block place number at s s1 s2 s3 s4 s5 s6 a b l d e f1 f2 f3 f4 f5 f6 =
+-- the byte of a kind is its number
+pub kind-number : (k : Kind) → tag_of the_type k ≡ kind_number k
+kind-number Nothing = refl
+kind-number Command = refl
+kind-number Refused = refl
+kind-number Damaged = refl
+kind-number Gap = refl
+kind-number Back = refl
+
+pub head-put : (more : Bool) (e : Event) (s s1 s2 s3 s4 s5 s6 : List ℕ) (a b : ℕ) → 80 ≤ length s
+    → a ≡ kind_number e.kind → b ≡ bit more
+    → s1 ≡ put_at s 0 (a ∷ []) → s2 ≡ put_at s1 1 (b ∷ []) → s3 ≡ put_at s2 2 (bytes_of 4 e.block) → s4 ≡ put_at s3 6 (bytes_of 2 (e.place % 65536))
+    → s5 ≡ put_at s4 8 (e.number ∷ []) → s6 ≡ put_at s5 9 (e.payload_place ∷ []) → s6 ≡ sets s 0 (head_image more e)
+head-put more event s s1 s2 s3 s4 s5 s6 a b l d e f1 f2 f3 f4 f5 f6 =
+    let k = event.kind in
+    let block = event.block in
+    let place = event.place in
+    let number = event.number in
+    let at = event.payload_place in
     let p : s4 ≡ put_at s3 6 (bytes_of 2 place) = f4 ∙ ap (put_at s3 6) (word_of place) in
     let h1 = kind_number k ∷ [] in
     let h2 = kind_number k ∷ bit more ∷ [] in
@@ -56,5 +73,5 @@ head-put k more block place number at s s1 s2 s3 s4 s5 s6 a b l d e f1 f2 f3 f4 
 
 pub event-size : (more : Bool) (e : Event) → length e.command.bytes ≡ 55 → length (event_image more e) ≡ 80
 event-size more e l =
-    length-append (head_image e.kind more e.block e.place e.number e.payload_place) (record_image e.command)
+    length-append (head_image more e) (record_image e.command)
     ∙ ap (λ (n : ℕ). 10 + n) (record_size_lem e.command l)

@@ -18,10 +18,10 @@ kind_number Back = 5
 
 -- kind (1); more (1, 0 or 1); block number, of a damaged block the caller's position (4); place of the record's length byte (2); number (1);
 -- place in the payload (1)
-abbrev pub head_image : Kind → Bool → ℕ → ℕ → ℕ → ℕ → List ℕ
-head_image k more b at n p = kind_number k ∷ bit more ∷ (bytes_of 4 b ++ (bytes_of 2 at ++ (n ∷ p ∷ [])))
+abbrev pub head_image : Bool → Event → List ℕ
+head_image more e =
+    kind_number e.kind ∷ bit more ∷ (bytes_of 4 e.block ++ (bytes_of 2 e.place ++ (e.number ∷ e.payload_place ∷ [])))
 
 -- 80 bytes: that, and the record image (70)
 abbrev pub event_image : Bool → Event → List ℕ
-event_image more e =
-    head_image e.kind more e.block e.place e.number e.payload_place ++ record_image e.command
+event_image more e = head_image more e ++ record_image e.command

@@ -16,25 +16,18 @@ const REPLAY_PLACE: usize = 5;
 
 pub const REPLAY_SIZE: usize = 7;
 
-#[derive(Clone, Copy)]
-pub enum StateRead {
-    Got(Replay),
-    Refused(Refusal),
-}
-
 // The state of an image; of other bytes 5.
-pub fn from(image: &[u8]) -> StateRead
+pub fn from(image: &[u8]) -> Result<Replay, Refusal>
     ensures { told_state result ≡ state_from image.now }
 {
     if image.len() != REPLAY_SIZE {
-        return StateRead::Refused(Refusal::RecordNotMade);
+        return Err(Refusal::RecordNotMade);
     }
-    let started = image[REPLAY_STARTED];
-    if 1 < started {
-        return StateRead::Refused(Refusal::RecordNotMade);
-    }
-    StateRead::Got(Replay {
-        started: started == 1,
+    let Ok(started) = images::number::flag(image[REPLAY_STARTED]) else {
+        return Err(Refusal::RecordNotMade);
+    };
+    Ok(Replay {
+        started,
         number: images::number::at(image, REPLAY_NUMBER, Width::Four),
         place: images::number::at(image, REPLAY_PLACE, Width::Two) as usize,
     })
@@ -47,7 +40,7 @@ pub fn put(state: Replay, out: &mut [u8])
     if out.len() < REPLAY_SIZE {
         return;
     }
-    codec::writer::put_byte(out, REPLAY_STARTED, codec::writer::bit_of(state.started));
+    codec::writer::put_byte(out, REPLAY_STARTED, u8::from(state.started));
     codec::writer::put_number(out, REPLAY_NUMBER, Width::Four, state.number);
     codec::writer::put_number(out, REPLAY_PLACE, Width::Two, (state.place % 65536) as u32);
 }

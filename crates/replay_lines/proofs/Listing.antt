@@ -1,4 +1,5 @@
 -- The text of a block's events, one behind the other: any block's has room. Assumes nothing.
+use Rattle.std.specs.Prelude.{Result, Ok, Err}
 use Prim.Native.Nat.{ℕ, ◌+◌, ◌-◌, ◌*◌, ◌<◌, ◌≤◌}
 use mathlib.Core.Bool.{Bool, true, false}
 use mathlib.Core.List.{List, [], ◌++◌}
@@ -10,21 +11,21 @@ use lib.Seq.{sets, length-sets}
 use lib.Dec.{ltb}
 use Rattle.codec.specs.Pick.{pick}
 use Rattle.codec.specs.Sheet.{Answer, got, refused}
-use Rattle.codec.specs.Refusals.{refusal_number, outcome_number, number_in, value_in}
+use Rattle.codec.specs.Refusals.{refusal_number, Gives, number_in, value_in}
 use Rattle.codec.specs.Writing.{put_at}
-use Rattle.codec.specs.declared.refusal.Outcome.{Outcome}
-use Rattle.codec.specs.declared.refusal.Outcome.TheVariants.{Accepted, Refused}
 use Rattle.codec.specs.declared.refusal.Refusal.{Refusal}
 use Rattle.codec.specs.declared.refusal.Refusal.TheVariants.{BufferOverflow}
 use Rattle.codec.proofs.Loops.{sets_append}
 use Rattle.codec.proofs.Writes.{put-fits, refusal_some}
 use Rattle.text.specs.Putting.{PutsBehind}
-use Rattle.replay.specs.Step.{Stepped, blank_event, step_of}
+use Rattle.replay.specs.Step.{Stepped, blank_event, step_of, StepIs}
 use Rattle.replay.specs.Through.{told, Replayed, through}
 use Rattle.replay.specs.declared.Event.{Event}
 use Rattle.replay.specs.declared.Replay.{Replay}
+use Rattle.replay.specs.declared.Step.{Step}
+use Rattle.codec.proofs.Outcomes.{gives_ok}
 use Rattle.replay_lines.specs.Text.{text_of, text_of_all}
-use Rattle.replay_lines.specs.Lines.{most_text, listed, Lists, refused_lines, OnceOn, text_in, step_text, PutsStep}
+use Rattle.replay_lines.specs.Lines.{most_text, listed, Lists, OnceOn, step_text, behind_step, PutsText, PutsStep}
 use Rattle.replay_lines.specs.declared.Lines.{Lines}
 use Rattle.replay_lines.proofs.TextLaws.{all_append, told_text_lem}
 use Rattle.replay_lines.proofs.Stepping.{Onward, step-says, says_on, says-stops, Going, going_starts, going-stops, going-ends, going_turn}
@@ -79,8 +80,8 @@ listing_starts s position b t = record {
 pub listing-within : {s₀ s : Replay} {position n : ℕ} {b t₀ t : List ℕ} → Listing s₀ position b t₀ s n t → n ≤ length t
 listing-within {s₀} {s} {position} {n} {b} {t₀} {t} g = omega (arith, g.within, g.same)
 
-module _ {s₀ s : Replay} {position n : ℕ} {b t₀ t t' : List ℕ} (r : Lines) (g : Listing s₀ position b t₀ s n t)
-    (p : PutsStep (step_of s position b) n r t t') (much : most_text ≤ length t₀) (once : OnceOn s₀ position b) where
+module _ {s₀ s : Replay} {position n : ℕ} {b t₀ t : List ℕ} (g : Listing s₀ position b t₀ s n t)
+    (much : most_text ≤ length t₀) (once : OnceOn s₀ position b) where
   abbrev x : Stepped
   x = step_of s position b
 
@@ -88,15 +89,24 @@ module _ {s₀ s : Replay} {position n : ℕ} {b t₀ t t' : List ℕ} (r : Line
   put-text = text_of_all g.so_far
 
   -- an event is handed on
-  module _ (h : r.outcome ≡ Accepted) where
-    said : (e : Event) × ((x.says ≡ got e) × Onward s x.state)
-    said = says_on (step-says s position b) p.outcome h
+  module _ {t' : List ℕ} (r : Lines) (p : PutsStep (step_of s position b) n (Ok r) t t') where
+    said : (e : Event) × ((x.says ≡ got e) × (Onward s x.state × (r ≡ behind_step x (n + p.put) e)))
+    said = says_on _ (step-says s position b) r p.gives
+
+    abbrev onward : Onward s x.state
+    onward = said.1.1.0
+
+    state_is : r.state ≡ x.state
+    state_is = ap (λ (l : Lines). l.state) said.1.1.1
+
+    count_is : r.len ≡ n + p.put
+    count_is = ap (λ (l : Lines). l.len) said.1.1.1
 
     text_is : step_text x ≡ text_of said.0
     text_is = ap (λ (a : Answer Event). text_of (value_in blank_event a)) said.1.0
 
     fits : n + length (step_text x) ≤ length t
-    fits = omega (arith, p.puts.longest, g.room, said.1.1.low, g.same, much)
+    fits = omega (arith, p.puts.longest, g.room, onward.low, g.same, much)
 
     put_is : p.put ≡ length (step_text x)
     put_is = p.puts.put.count
@@ -106,7 +116,7 @@ module _ {s₀ s : Replay} {position n : ℕ} {b t₀ t t' : List ℕ} (r : Line
     all_is = all_append g.so_far (told said.0) ∙ ap (λ (w : List ℕ). put-text ++ w) (told_text_lem said.0 ∙ sym text_is)
 
     size_is : length (text_of_all (g.so_far ++ told said.0)) ≡ r.len
-    size_is = ap length all_is ∙ length-append put-text (step_text x) ∙ omega (arith, g.size, put_is, p.count)
+    size_is = ap length all_is ∙ length-append put-text (step_text x) ∙ omega (arith, g.size, put_is, count_is)
 
     bytes_are : t' ≡ sets t₀ 0 (text_of_all (g.so_far ++ told said.0))
     bytes_are =
@@ -118,21 +128,21 @@ module _ {s₀ s : Replay} {position n : ℕ} {b t₀ t t' : List ℕ} (r : Line
         ∙ ap (λ (y : List ℕ). sets t₀ 0 y) (sym all_is)
 
     -- the block's last
-    pub listing-ends : r.state.place ≡ 0 → Lists s₀ (through s₀ position b) r t₀ t'
+    pub listing-ends : r.state.place ≡ 0 → Lists (through s₀ position b) (Ok r) t₀ t'
     listing-ends z =
-        let e = going-ends g.going said.1.0 (ap (λ (y : Replay). y.place) (sym p.state) ∙ z) in
-        subst (λ (a : Answer Replayed). Lists s₀ a r t₀ t') (sym e) (record {
-          outcome = ap outcome_number h;
-          state = p.state;
-          count = sym size_is;
-          fits = omega (arith, fits, put_is, p.count, g.same);
+        let e = going-ends g.going said.1.0 (ap (λ (y : Replay). y.place) (sym state_is) ∙ z) in
+        subst (λ (a : Answer Replayed). Lists a (Ok r) t₀ t') (sym e) (record {
+          gives =
+              ap (λ (y : Replay). record { state = y; len = r.len }) state_is
+              ∙ ap (λ (m : ℕ). record { state = x.state; len = m }) (sym size_is);
+          fits = omega (arith, fits, put_is, count_is, size_is, g.same);
           leaves = bytes_are;
         })
 
     -- or there is more
     module _ (k : r.state.place ≡ 0 → ⊥) where
       further : (s.place + 5 ≤ x.state.place) × ((6 ≤ x.state.place) × (x.state.place ≤ 511))
-      further = said.1.1.next (λ z. k (ap (λ (y : Replay). y.place) p.state ∙ z))
+      further = onward.next (λ z. k (ap (λ (y : Replay). y.place) state_is ∙ z))
 
       none_refuses : Begun s₀ position b s g.so_far → number_in (through s₀ position b) ≡ 0
       none_refuses (first e f) =
@@ -140,78 +150,100 @@ module _ {s₀ s : Replay} {position n : ℕ} {b t₀ t t' : List ℕ} (r : Line
       none_refuses (later e) = e
 
       pub listing_turn : Listing s₀ position b t₀ r.state r.len t'
-      listing_turn = subst (λ (y : Replay). Listing s₀ position b t₀ y r.len t') (sym p.state) (record {
+      listing_turn = subst (λ (y : Replay). Listing s₀ position b t₀ y r.len t') (sym state_is) (record {
         so_far = g.so_far ++ told said.0;
-        going = going_turn g.going said.1.0 said.1.1 (λ z. k (ap (λ (y : Replay). y.place) p.state ∙ z));
+        going = going_turn g.going said.1.0 onward (λ z. k (ap (λ (y : Replay). y.place) state_is ∙ z));
         size = size_is;
-        room = omega (arith, g.room, put_is, p.count, p.puts.longest, further.0, further.1.0);
-        within = omega (arith, fits, put_is, p.count, g.same);
+        room = omega (arith, g.room, put_is, count_is, p.puts.longest, further.0, further.1.0);
+        within = omega (arith, fits, put_is, count_is, g.same);
         leaves = bytes_are;
         same = ap length bytes_are ∙ length-sets t₀ 0 (text_of_all (g.so_far ++ told said.0));
         begun = later (none_refuses g.begun);
       })
 
       pub listing_less : 512 - r.state.place < 512 - s.place
-      listing_less = omega (arith, further.0, further.1.1, ap (λ (y : Replay). y.place) p.state)
+      listing_less = omega (arith, further.0, further.1.1, ap (λ (y : Replay). y.place) state_is)
 
   -- a step refuses: it is the first
-  module _ (why : Refusal) (h : r.outcome ≡ Refused why) where
-    stopped : (x.says ≡ refused 5 0) × ((x.state ≡ s) × (refusal_number why ≡ 5))
-    stopped = says-stops (step-says s position b) p.outcome why h
+  module _ {t' : List ℕ} (why : Refusal) (p : PutsStep (step_of s position b) n (Err why) t t') where
+    stopped : (x.says ≡ refused 5 0) × (refusal_number why ≡ 5)
+    stopped = says-stops _ (step-says s position b) why p.gives
 
     none_is : step_text x ≡ []
     none_is = ap (λ (a : Answer Event). text_of (value_in blank_event a)) stopped.0
 
-    zero-put : p.put ≡ 0
-    zero-put =
-        p.puts.put.count
-        ∙ ap (λ (w : List ℕ). pick (ltb (length t) (n + length w)) 0 (length w)) none_is
-        ∙ none_count (ltb (length t) (n + 0))
-
     keeps : t' ≡ t
     keeps = p.puts.put.leaves ∙ ap (λ (w : List ℕ). put_at t n w) none_is ∙ none_put t n
 
-    pub listing-stops : Lists s₀ (through s₀ position b) r t₀ t'
-    listing-stops =
+    pub listing-stops : (out : Result Lines Refusal) → out ≡ Err why → Lists (through s₀ position b) out t₀ t'
+    listing-stops out o =
         let e = going-stops g.going 5 0 stopped.0 in
-        subst (λ (a : Answer Replayed). Lists s₀ a r t₀ t') (sym e) (by e g.begun)
+        subst (λ (r : Result Lines Refusal). Lists (through s₀ position b) r t₀ t') (sym o)
+        (subst (λ (a : Answer Replayed). Lists a (Err why) t₀ t') (sym e) (by e g.begun))
       where
-        by : through s₀ position b ≡ refused 5 0 → Begun s₀ position b s g.so_far → Lists s₀ (refused 5 0) r t₀ t'
+        by : through s₀ position b ≡ refused 5 0 → Begun s₀ position b s g.so_far → Lists (refused 5 0) (Err why) t₀ t'
         by e (later f) = let z : ◌≡◌ {A = ℕ} 0 5 = sym f ∙ ap number_in e in absurd (omega arith)
-        by e (first f d) =
-            let none : n ≡ 0 = sym g.size ∙ ap (λ (es : List Event). length (text_of_all es)) d in
-            record {
-              outcome = ap outcome_number h ∙ stopped.1.1;
-              state = p.state ∙ stopped.1.0 ∙ f;
-              count = omega (arith, p.count, zero-put, none);
-              fits = omega (arith, p.count, zero-put, none);
-              leaves = keeps ∙ g.leaves ∙ ap (λ (es : List Event). sets t₀ 0 (text_of_all es)) d;
-            }
+        by e (first f d) = record {
+          gives = stopped.1;
+          fits = omega arith;
+          leaves = keeps ∙ g.leaves ∙ ap (λ (es : List Event). sets t₀ 0 (text_of_all es)) d;
+        }
 
-pub lists_same : {s : Replay} {a : Answer Replayed} {r : Lines} {t t' : List ℕ} → Lists s a r t t' → length t' ≡ length t
-lists_same {s} {a} {r} {t} {t'} l = ap length l.leaves ∙ length-sets t 0 (text_in a)
+-- a step that refuses puts nothing
+pub none_puts : (s : Replay) (position : ℕ) (b t : List ℕ) (n : ℕ) (why : Refusal) (out : Result Lines Refusal) → out ≡ Err why
+    → StepIs (step_of s position b) (Err why) → PutsStep (step_of s position b) n out t t
+none_puts s position b t n why out o h =
+    let e = says-stops _ (step-says s position b) why h in
+    subst (λ (r : Result Lines Refusal). PutsStep (step_of s position b) n r t t) (sym o) (by (step_of s position b) e.0 e.1)
+  where
+    by : (x : Stepped) → x.says ≡ refused 5 0 → refusal_number why ≡ 5 → PutsStep x n (Err why) t t
+    by x f g =
+        let none : step_text x ≡ [] = ap (λ (a : Answer Event). text_of (value_in blank_event a)) f in
+        record {
+          put = 0;
+          gives = subst (λ (a : Answer Event). Gives (behind_step x (n + 0)) a (Err why)) (sym f) g;
+          puts = subst (λ (w : List ℕ). PutsText w n 0 t t) (sym none) (record {
+            put = record { count = sym (none_count (ltb (length t) (n + 0))); leaves = sym (none_put t n) };
+            longest = omega arith;
+          });
+        }
+
+-- one that is not refused puts its event's text
+pub step_puts : (x : Stepped) (at k : ℕ) (r : Step) {t t' : List ℕ} → StepIs x (Ok r) → PutsText (text_of r.event) at k t t'
+    → PutsStep x at (Ok (record { state = r.state; len = at + k })) t t'
+step_puts x at k r {t} {t'} h p =
+    let g = gives_ok _ x.says r h in
+    let text : text_of r.event ≡ step_text x =
+    ap (λ (y : Step). text_of y.event) g.1.1 ∙ sym (ap (λ (a : Answer Event). text_of (value_in blank_event a)) g.1.0) in
+    record {
+      put = k;
+      gives =
+          subst (λ (a : Answer Event). Gives (behind_step x (at + k)) a (Ok (record { state = r.state; len = at + k }))) (sym g.1.0)
+          (ap (λ (y : Step). record { state = y.state; len = at + k }) g.1.1);
+      puts = subst (λ (w : List ℕ). PutsText w at k t t') text p;
+    }
 
 -- ---- the room, and the steps tried first
 module _ (s : Replay) (position : ℕ) (b t : List ℕ) where
-  pub lists_short : {r : Lines} → r ≡ refused_lines BufferOverflow s → length t < most_text → Lists s (listed s position b t) r t t
+  pub lists_short : length t < most_text → Lists (listed s position b t) (Err BufferOverflow) t t
   unfolding listed
-  lists_short {r} e h =
-      subst (λ (z : Bool). Lists s (pick z (refused 3 0) (through s position b)) r t t) (sym (lt-ltb (length t) most_text h))
-      (subst (λ (x : Lines). Lists s (refused 3 0) x t t) (sym e) (record { outcome = refl; state = refl; count = refl; fits = omega arith; leaves = refl }))
+  lists_short h =
+      subst (λ (z : Bool). Lists (pick z (refused 3 0) (through s position b)) (Err BufferOverflow) t t) (sym (lt-ltb (length t) most_text h))
+      (record { gives = refl; fits = omega arith; leaves = refl })
 
-  pub lists_there : {r : Lines} {t' : List ℕ} → most_text ≤ length t → Lists s (through s position b) r t t' → Lists s (listed s position b t) r t t'
+  pub lists_there : {r : Result Lines Refusal} {t' : List ℕ} → most_text ≤ length t → Lists (through s position b) r t t'
+      → Lists (listed s position b t) r t t'
   unfolding listed
   lists_there {r} {t'} h l =
-      subst (λ (z : Bool). Lists s (pick z (refused 3 0) (through s position b)) r t t') (sym (le-ltb (length t) most_text h)) l
+      subst (λ (z : Bool). Lists (pick z (refused 3 0) (through s position b)) r t t') (sym (le-ltb (length t) most_text h)) l
 
-  pub lists_tried : (o : Outcome) (why : Refusal) {r : Lines} → r ≡ refused_lines why s
-      → outcome_number o ≡ number_in (through s position b) → o ≡ Refused why → Lists s (through s position b) r t t
-  lists_tried o why {r} d h e =
-      subst (λ (x : Lines). Lists s (through s position b) x t t) (sym d) (by (through s position b) (sym (ap outcome_number e) ∙ h))
+  pub lists_tried : (why : Refusal) (out : Result Lines Refusal) → out ≡ Err why → refusal_number why ≡ number_in (through s position b)
+      → Lists (through s position b) out t t
+  lists_tried why out o h = subst (λ (r : Result Lines Refusal). Lists (through s position b) r t t) (sym o) (by (through s position b) h)
     where
-      by : (a : Answer Replayed) → refusal_number why ≡ number_in a → Lists s a (refused_lines why s) t t
+      by : (a : Answer Replayed) → refusal_number why ≡ number_in a → Lists a (Err why) t t
       by (got x) f = absurd (omega (arith, refusal_some why))
-      by (refused n p) f = record { outcome = f; state = refl; count = refl; fits = omega arith; leaves = refl }
+      by (refused n p) f = record { gives = f; fits = omega arith; leaves = refl }
 
-  pub tried_on : (o : Outcome) → outcome_number o ≡ number_in (through s position b) → o ≡ Accepted → OnceOn s position b
-  tried_on o h e = λ event f. sym h ∙ ap outcome_number e
+  pub tried_on : 0 ≡ number_in (through s position b) → OnceOn s position b
+  tried_on h = λ event f. sym h

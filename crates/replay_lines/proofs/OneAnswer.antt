@@ -1,37 +1,20 @@
 -- Any two answers that a public function's contract allows coincide, and so do the bytes that it leaves in a lent slice. `Post` is
 -- the contract as the check reads it from the source, and no copy of it. Assumes nothing.
-use Prim.Native.Nat.{ℕ}
-use mathlib.Core.List.{List}
-use mathlib.Core.Path.{◌≡◌, ap, sym, ◌∙◌}
+use mathlib.Core.Path.{◌≡◌, sym, ◌∙◌}
 use contract.Lifetimes.{Lfts}
 use borrow.Fn.Kinds.{Dens, res_t, ended_of}
 use denote.Triple.Clauses.{AtExit}
-use Rattle.codec.specs.Sheet.{Answer}
-use Rattle.codec.specs.declared.refusal.Outcome.{Outcome}
-use Rattle.codec.proofs.Outcomes.{outcome_one}
+use Rattle.codec.proofs.Outcomes.{gives_one}
 use Rattle.codec.proofs.Writes.{written_fixed}
-use Rattle.replay.specs.Through.{Replayed}
-use Rattle.replay.specs.declared.Replay.{Replay}
-use Rattle.replay_lines.specs.Lines.{Lists}
-use Rattle.replay_lines.specs.declared.Lines.{Lines}
 use Rattle.replay_lines.proofs.list_block.Reads as list-block
 use Rattle.replay_lines.proofs.list_block.Kinds as list-block-kinds
 use Rattle.replay_lines.proofs.put_end.Reads as put-end
 use Rattle.replay_lines.proofs.put_end.Kinds as put-end-kinds
 
-lists_fixed : (s : Replay) (a : Answer Replayed) (x y : Lines) (t p q : List ℕ) → Lists s a x t p → Lists s a y t q → (x ≡ y) × (p ≡ q)
-lists_fixed s a x y t p q g h = (
-  ap (λ (o : Outcome). record { outcome = o; state = x.state; len = x.len })
-      (outcome_one x.outcome y.outcome (g.outcome ∙ sym h.outcome))
-      ∙ ap (λ (z : Replay). record { outcome = y.outcome; state = z; len = x.len }) (g.state ∙ sym h.state)
-      ∙ ap (λ (n : ℕ). record { outcome = y.outcome; state = y.state; len = n }) (g.count ∙ sym h.count),
-  g.leaves ∙ sym h.leaves,
-)
-
 pub list_block_one : (κs : Lfts 2) (a : Dens κs list-block-kinds.ps) (x y : (res_t list-block-kinds.r κs).Denot)
     (s t : AtExit (ended_of 2 list-block-kinds.ps list-block-kinds.r) κs)
     → list-block.Post κs a x s → list-block.Post κs a y t → (x ≡ y) × (s.1.1.1.0.now ≡ t.1.1.1.0.now)
-list_block_one κs a x y s t p q = lists_fixed _ _ x y _ _ _ p q
+list_block_one κs a x y s t p q = (gives_one _ _ x y p.gives q.gives, p.leaves ∙ sym q.leaves)
 
 pub put_end_one : (κs : Lfts 1) (a : Dens κs put-end-kinds.ps) (x y : (res_t put-end-kinds.r κs).Denot)
     (s t : AtExit (ended_of 1 put-end-kinds.ps put-end-kinds.r) κs)

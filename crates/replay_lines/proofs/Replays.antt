@@ -1,4 +1,5 @@
 -- A log handed in block by block: what `list_block` gives of each block is the log's text, in order. Assumes nothing.
+use Rattle.std.specs.Prelude.{Result, Ok, Err}
 use Prim.Native.Nat.{ℕ, suc, ◌+◌, ◌<◌, ◌≤◌}
 use mathlib.Core.Bool.{Bool, true}
 use mathlib.Core.List.{List, [], ◌∷◌, ◌++◌, append_assoc, append-nil}
@@ -11,8 +12,6 @@ use Rattle.codec.specs.Pick.{pick}
 use Rattle.codec.specs.Sheet.{Answer, got, refused}
 use Rattle.codec.specs.Writing.{stop_room}
 use Rattle.codec.specs.Told.{WritesAll}
-use Rattle.codec.specs.declared.writer.Written.{Written}
-use Rattle.codec.specs.declared.writer.Written.TheVariants.{Count, Refused as NotWritten}
 use Rattle.codec.specs.declared.refusal.Refusal.{Refusal}
 use Rattle.codec.proofs.Writes.{out_some}
 use Rattle.text.specs.Putting.{Front}
@@ -120,34 +119,43 @@ module _ {k : ℕ} {s : Replay} (a : After k s) where
       ∙ ap (λ (l : Before). log_text a.blocks ++ text_of_all (events_of l (handed k b ∷ []))) (sym before_is)
 
   -- what `list_block` answers
-  module _ (b t t' : List ℕ) (r : Lines) (much : most_text ≤ length t) (l : Lists s (listed s k b t) r t t') where
+  module _ (b t t' : List ℕ) (much : most_text ≤ length t) where
     is : listed s k b t
         ≡ got (replayed (events_of (before_of s) (handed k b ∷ [])) (behind_block s k b))
     unfolding listed
     is = ap (λ (z : Bool). pick z (refused 3 0) (through s k b)) (le-ltb (length t) most_text much) ∙ one_block s k b limits at_rest
 
-    given : Lists s (got (replayed (events_of (before_of s) (handed k b ∷ [])) (behind_block s k b))) r t t'
-    given = subst (λ (x : Answer Replayed). Lists s x r t t') is l
+    given : (r : Result Lines Refusal) → Lists (listed s k b t) r t t'
+        → Lists (got (replayed (events_of (before_of s) (handed k b ∷ [])) (behind_block s k b))) r t t'
+    given r l = subst (λ (x : Answer Replayed). Lists x r t t') is l
 
-    pub block-state : r.state ≡ behind_block s k b
-    block-state = given.state
+    -- it refuses none
+    pub block_not_refused : (why : Refusal) → Lists (listed s k b t) (Err why) t t' → ⊥
+    block_not_refused why l = (given (Err why) l).gives
 
-    pub block-handed : Front r.len t' (block_text s k b)
-    block-handed = subst (λ (x : List ℕ). Front r.len x (block_text s k b)) (sym given.leaves)
-        (front_there t (block_text s k b) r.len given.count given.fits)
+    module _ (r : Lines) (l : Lists (listed s k b t) (Ok r) t t') where
+      pub block-state : r.state ≡ behind_block s k b
+      block-state = ap (λ (x : Lines). x.state) (given (Ok r) l).gives
+
+      pub block-handed : Front r.len t' (block_text s k b)
+      block-handed =
+          let g = given (Ok r) l in
+          let count : r.len ≡ length (block_text s k b) = ap (λ (x : Lines). x.len) g.gives in
+          subst (λ (x : List ℕ). Front r.len x (block_text s k b)) (sym g.leaves)
+          (front_there t (block_text s k b) r.len count (omega (arith, count, g.fits)))
 
 -- ---- the closing line
-module _ (n : ℕ) (small : n < bits64) (x : Written) (t t' : List ℕ) (much : most_text ≤ length t) (w : WritesAll (end_text n) x t t') where
+module _ (n : ℕ) (small : n < bits64) (x : Result ℕ Refusal) (t t' : List ℕ) (much : most_text ≤ length t) (w : WritesAll (end_text n) x t t') where
   end_fits : length (end_text n) ≤ length t
   end_fits = omega (arith, end_length n small)
 
   goes : stop_room (length t) (length (end_text n)) ≡ 0
   goes = rw (le-ltb (length t) (length (end_text n)) end_fits)
 
-  pub end_not_refused : (r : Refusal) → x ≡ NotWritten r → ⊥
+  pub end_not_refused : (r : Refusal) → x ≡ Err r → ⊥
   end_not_refused r e = out_some r (length (end_text n)) (rw (goes, e) at w.0)
 
-  pub end_handed : (k : ℕ) → x ≡ Count k → Front k t' (end_text n)
+  pub end_handed : (k : ℕ) → x ≡ Ok k → Front k t' (end_text n)
   end_handed k e =
       let g = rw (goes, e) at w.0 in
       let d : k ≡ length (end_text n) = cc in

@@ -1,5 +1,6 @@
 -- Wrong answers that the contracts of the public functions rule out: the definition that the contract names, worked out for an input
 -- where the wrong answer would be another. That no other answer is allowed there is in OneAnswer.antt. Assumes nothing.
+use Rattle.std.specs.Prelude.{Err}
 use Prim.Native.Nat.{ℕ}
 use mathlib.Core.Bool.{Bool, false}
 use mathlib.Core.List.{List, [], ◌∷◌}
@@ -11,7 +12,6 @@ use Rattle.codec.specs.Pick.{pick}
 use Rattle.codec.specs.Sheet.{Answer, refused}
 use Rattle.codec.specs.Told.{WritesAll}
 use Rattle.codec.specs.declared.refusal.Refusal.TheVariants.{BufferOverflow}
-use Rattle.codec.specs.declared.writer.Written.TheVariants.{Refused as NotWritten}
 use Rattle.commands.specs.Reading.{read_command}
 use Rattle.commands.specs.declared.DirectCommands.{DirectCommands}
 use Rattle.commands.proofs.Laid.{payload-length}
@@ -67,5 +67,5 @@ pub end_counts : end_text 10 ≡ 101 ∷ 110 ∷ 100 ∷ 32 ∷ 49 ∷ 48 ∷ 10
 end_counts = refl
 
 -- no line is half written: "end 0" and its end are 6 bytes
-pub end_no_room : WritesAll (end_text 0) (NotWritten BufferOverflow) (replicate 5 7) (replicate 5 7)
+pub end_no_room : WritesAll (end_text 0) (Err BufferOverflow) (replicate 5 7) (replicate 5 7)
 end_no_room = (refl, refl)

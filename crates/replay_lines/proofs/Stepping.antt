@@ -1,27 +1,27 @@
 -- Through a block step by step: each step goes on in the block by 5 bytes and more, or refuses. Assumes nothing.
-use Prim.Native.Nat.{ℕ, zero, suc, ◌+◌, ◌<◌, ◌≤◌}
+use Rattle.std.specs.Prelude.{⊤, Result, Ok, Err}
+use Prim.Native.Nat.{ℕ, zero, suc, ◌+◌, ◌-◌, ◌<◌, ◌≤◌}
 use mathlib.Core.Bool.{Bool, true, false}
 use mathlib.Core.List.{List, [], ◌∷◌, ◌++◌, append_assoc, append-nil}
-use mathlib.Core.Path.{◌≡◌, refl, ap, sym, ◌∙◌}
+use mathlib.Core.Path.{◌≡◌, refl, ap, sym, subst, ◌∙◌}
 use native.Mathlib.Omega.{arith}
 use borrow.Author.Tests.{ltb-true, eqb-true, ne_eqb}
 use lib.Dec.{ltb, eqb}
 use Rattle.codec.specs.Pick.{pick}
 use Rattle.codec.specs.Sheet.{Answer, got, refused, and_then}
-use Rattle.codec.specs.Refusals.{refusal_number, outcome_number, number_in}
-use Rattle.codec.specs.declared.refusal.Outcome.{Outcome}
-use Rattle.codec.specs.declared.refusal.Outcome.TheVariants.{Accepted, Refused}
+use Rattle.codec.specs.Refusals.{refusal_number, outcome_number, number_in, Gives}
 use Rattle.codec.specs.declared.refusal.Refusal.{Refusal}
-use Rattle.codec.proofs.Writes.{refusal_some}
+use Rattle.codec.proofs.Outcomes.{gives_ok, gives_err}
 use Rattle.blocks.specs.Block.{block_number, Record, records_of}
 use Rattle.blocks.specs.Walk.{first_of, Standing, standing, used_end, place_before, record_at}
 use Rattle.blocks.proofs.Records.{ends}
 use Rattle.blocks.proofs.Walks.{Walks, stands, sound_walks}
 use Rattle.replay.specs.Log.{handed, ordered, events_of}
-use Rattle.replay.specs.Step.{before_of, in_limits, Stepped, entering, opens, goes_on, beyond, step_of}
+use Rattle.replay.specs.Step.{before_of, in_limits, Stepped, entering, opens, goes_on, beyond, step_of, after_step, StepIs}
 use Rattle.replay.specs.Through.{told, Replayed, replayed, before, going_on, steps, through, events_in, state_in, between, last_of}
 use Rattle.replay.specs.declared.Event.{Event}
 use Rattle.replay.specs.declared.Replay.{Replay}
+use Rattle.replay.specs.declared.Step.{Step}
 use Rattle.replay.proofs.AnyBlocks.{any_blocks}
 use Rattle.replay_lines.specs.Lines.{OnceOn}
 
@@ -82,21 +82,30 @@ step-says s position b = by (in_limits s) (eqb s.place 0) refl
     by true false h = goes_on_lem s b (record_at b s.place) refl
     by false y h = stops refl refl
 
--- by the outcome that a step's answer has
-module _ {s : Replay} {x : Stepped} {o : Outcome} (y : Says s x) (n : outcome_number o ≡ number_in x.says) where
-  pub says_on : o ≡ Accepted → (e : Event) × ((x.says ≡ got e) × Onward s x.state)
-  says_on h = by y
+-- by what a step's answer gives
+module _ {B : Type 0} {s : Replay} {x : Stepped} (shown : Event → B) (y : Says s x) where
+  pub says_on : (r : B) → Gives shown x.says (Ok r) → (e : Event) × ((x.says ≡ got e) × (Onward s x.state × (r ≡ shown e)))
+  says_on r h = by y
     where
-      by : Says s x → (e : Event) × ((x.says ≡ got e) × Onward s x.state)
-      by (on e f w) = (e, (f, w))
-      by (stops f w) = let z : ◌≡◌ {A = ℕ} 0 5 = sym (ap outcome_number h) ∙ n ∙ ap number_in f in absurd (omega arith)
+      by : Says s x → (e : Event) × ((x.says ≡ got e) × (Onward s x.state × (r ≡ shown e)))
+      by (on e f w) = let g = gives_ok shown x.says r h in (g.0, (g.1.0, (w, g.1.1)))
+      by (stops f w) =
+          let g = gives_ok shown x.says r h in
+          let e : refused 5 0 ≡ got g.0 = sym f ∙ g.1.0 in
+          let z : ◌≡◌ {A = ℕ} 0 1 = cc in absurd (omega arith)
 
-  pub says-stops : (r : Refusal) → o ≡ Refused r → (x.says ≡ refused 5 0) × ((x.state ≡ s) × (refusal_number r ≡ 5))
-  says-stops r h = by y
+  pub says-stops : (why : Refusal) → Gives shown x.says (Err why) → (x.says ≡ refused 5 0) × (refusal_number why ≡ 5)
+  says-stops why h = by y
     where
-      by : Says s x → (x.says ≡ refused 5 0) × ((x.state ≡ s) × (refusal_number r ≡ 5))
-      by (on e f w) = let z : refusal_number r ≡ 0 = sym (ap outcome_number h) ∙ n ∙ ap number_in f in absurd (omega (arith, refusal_some r))
-      by (stops f w) = (f, (w, sym (ap outcome_number h) ∙ n ∙ ap number_in f))
+      by : Says s x → (x.says ≡ refused 5 0) × (refusal_number why ≡ 5)
+      by (on e f w) =
+          let g = gives_err shown x.says why h in
+          let c : got e ≡ refused (refusal_number why) g.0 = sym f ∙ g.1 in
+          let z : ◌≡◌ {A = ℕ} 0 1 = cc in absurd (omega arith)
+      by (stops f w) =
+          let g = gives_err shown x.says why h in
+          let c : refused 5 0 ≡ refused (refusal_number why) g.0 = sym f ∙ g.1 in
+          let n : 5 ≡ refusal_number why = cc in (f, sym n)
 
 -- ---- the steps of a block: what was told so far, before those to come
 abbrev pub behind : List Event → Answer Replayed → Answer Replayed
@@ -171,6 +180,35 @@ module _ {s₀ s : Replay} {position : ℕ} {b : List ℕ} {so_far : List Event}
             told-step
             ∙ ap (λ (t : Bool). behind (so_far ++ told e) (pick t (got (replayed [] (step_of s position b).state)) after))
             (ne_eqb (step_of s position b).state.place 0 n)
+
+-- ---- the steps tried: a block's last, one behind which there is more, and one that refuses
+module _ {s₀ s : Replay} {position : ℕ} {b : List ℕ} {so_far : List Event} (g : Going s₀ position b s so_far) where
+  module _ (r : Step) (h : StepIs (step_of s position b) (Ok r)) where
+    said : (e : Event) × (((step_of s position b).says ≡ got e) × (Onward s (step_of s position b).state × (r ≡ after_step (step_of s position b).state e)))
+    said = says_on _ (step-says s position b) r h
+
+    state_is : r.state ≡ (step_of s position b).state
+    state_is = ap (λ (y : Step). y.state) said.1.1.1
+
+    place_is : r.state.place ≡ (step_of s position b).state.place
+    place_is = ap (λ (y : Replay). y.place) state_is
+
+    pub tried-ends : r.state.place ≡ 0 → 0 ≡ number_in (through s₀ position b)
+    tried-ends z = sym (ap number_in (going-ends g said.1.0 (sym place_is ∙ z)))
+
+    pub tried_turn : (r.state.place ≡ 0 → ⊥) → (es : List Event) × Going s₀ position b r.state es
+    tried_turn n =
+        subst (λ (y : Replay). (es : List Event) × Going s₀ position b y es) (sym state_is)
+        (so_far ++ told said.0, going_turn g said.1.0 said.1.1.0 (λ z. n (place_is ∙ z)))
+
+    pub tried_less : (r.state.place ≡ 0 → ⊥) → 512 - r.state.place < 512 - s.place
+    tried_less n = let far = said.1.1.0.next (λ z. n (place_is ∙ z)) in omega (arith, far.0, far.1.1, place_is)
+
+  pub tried-stops : (why : Refusal) (out : Result ⊤ Refusal) → out ≡ Err why → StepIs (step_of s position b) (Err why)
+      → outcome_number out ≡ number_in (through s₀ position b)
+  tried-stops why out o h =
+      let e = says-stops _ (step-says s position b) why h in
+      ap outcome_number o ∙ e.1 ∙ sym (ap number_in (going-stops g 5 0 e.0))
 
 -- ---- a state between blocks: THE theorem of any blocks, of one
 alone : (a : Answer Replayed) → and_then a (λ r. got (replayed (events_in r ++ []) (state_in r))) ≡ a

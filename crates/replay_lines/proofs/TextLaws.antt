@@ -1,4 +1,5 @@
 -- How long a line's pieces are: each line has room in `longestText` bytes. Assumes nothing.
+use Rattle.std.specs.Prelude.{Ok, Err}
 use Prim.Native.Nat.{ℕ, suc, ◌+◌, ◌^◌, ◌<◌, ◌≤◌}
 use mathlib.Core.List.{List, [], ◌∷◌, ◌++◌, append_assoc, append-nil}
 use mathlib.Core.Path.{◌≡◌, refl, ap, sym, ◌∙◌}
@@ -7,7 +8,6 @@ use borrow.Author.Tests.{lt-ltb, le-ltb}
 use lib.ListN.{length, length-append}
 use Rattle.codec.specs.Writing.{stop_room}
 use Rattle.codec.specs.Told.{WritesAll}
-use Rattle.codec.specs.declared.writer.Written.TheVariants.{Count, Refused as RefusedWrite}
 use Rattle.codec.specs.declared.refusal.Refusal.TheVariants.{BufferOverflow}
 use Rattle.codec.proofs.InTurn.{writes-stop, writes-all}
 use Rattle.text.specs.Putting.{PutsBehind}
@@ -57,12 +57,12 @@ told_text_lem e = by e.kind refl
 
 -- ---- a text at the front of a lent slice
 module _ {w : List ℕ} (some : 0 < length w) {k : ℕ} {s s' : List ℕ} (p : PutsBehind w 0 k s s') where
-  pub front_none : k ≡ 0 → WritesAll w (RefusedWrite BufferOverflow) s s'
+  pub front_none : k ≡ 0 → WritesAll w (Err BufferOverflow) s s'
   front_none e =
       let n = behind_none p some e in
       rw n.1 (writes-stop (stop_room (length s) (length w)) w s BufferOverflow (rw (lt-ltb (length s) (length w) (omega (arith, n.0)))))
 
-  pub front_put : (k ≡ 0 → ⊥) → WritesAll w (Count k) s s'
+  pub front_put : (k ≡ 0 → ⊥) → WritesAll w (Ok k) s s'
   front_put e =
       let n = behind-some p some e in
       writes-all (stop_room (length s) (length w)) k w s s' (rw (le-ltb (length s) (length w) (omega (arith, n.0, n.1.0)))) n.0 n.1.1

@@ -1,10 +1,9 @@
 -- The lines of a block's events. Assumes nothing.
-use Rattle.std.specs.Prelude.{ℕ, ◌+◌, ◌*◌, ◌≤◌, List, [], ◌≡◌, length, ltb}
+use Rattle.std.specs.Prelude.{Result, ℕ, ◌+◌, ◌*◌, ◌≤◌, List, [], ◌≡◌, length, ltb}
 use Rattle.std.proofs.lemmas.List.Edits.{sets}
 use Rattle.codec.specs.Pick.{pick}
 use Rattle.codec.specs.Sheet.{Answer, got, refused}
-use Rattle.codec.specs.Refusals.{outcome_number, number_in, value_in}
-use Rattle.codec.specs.declared.refusal.Outcome.TheVariants.{Refused}
+use Rattle.codec.specs.Refusals.{Gives, number_in, value_in}
 use Rattle.codec.specs.declared.refusal.Refusal.{Refusal}
 use Rattle.text.specs.Putting.{PutsBehind}
 use Rattle.replay.specs.Step.{Stepped, blank_event, step_of}
@@ -33,22 +32,22 @@ abbrev pub state_after : Replay → Answer Replayed → Replay
 state_after s (got (replayed es s')) = s'
 state_after s (refused n p) = s
 
--- LISTING what comes of a state s, in the text t, answers r and leaves t': the text at the front, and the rest keeps its bytes
-pub record Lists (s : Replay) (a : Answer Replayed) (r : Lines) (t t' : List ℕ) : Type 0 where
-  pub outcome : outcome_number r.outcome ≡ number_in a
-  pub state : r.state ≡ state_after s a
-  pub count : r.len ≡ length (text_in a)
-  pub fits : r.len ≤ length t
+-- the state and the length that go with it
+abbrev pub lines_of : Replayed → Lines
+lines_of (replayed es s) = record { state = s; len = length (text_of_all es) }
+
+-- LISTING what comes of a state, in the text t, answers r and leaves t': the text at the front, and the rest keeps its bytes; where it is
+-- refused, all of t does, and the state stays with the caller as it was
+pub record Lists (a : Answer Replayed) (r : Result Lines Refusal) (t t' : List ℕ) : Type 0 where
+  pub gives : Gives lines_of a r
+  pub fits : length (text_in a) ≤ length t
   pub leaves : t' ≡ sets t 0 (text_in a)
 
 -- the events of the block b: all of t is their room
-abbrev pub ListsBlock : Replay → ℕ → List ℕ → Lines → List ℕ → List ℕ → Type 0
-ListsBlock s position b r t t' = Lists s (listed s position b t) r t t'
+abbrev pub ListsBlock : Replay → ℕ → List ℕ → Result Lines Refusal → List ℕ → List ℕ → Type 0
+ListsBlock s position b r t t' = Lists (listed s position b t) r t t'
 
 -- ---- For contracts of private functions, nobody has to believe what follows.
-abbrev pub refused_lines : Refusal → Replay → Lines
-refused_lines why s = record { outcome = Refused why; state = s; len = 0 }
-
 -- where the first step does not refuse, none does
 abbrev pub OnceOn : Replay → ℕ → List ℕ → Type 0
 OnceOn s position b = (e : Event) → (step_of s position b).says ≡ got e → number_in (through s position b) ≡ 0
@@ -62,9 +61,10 @@ pub record PutsText (w : List ℕ) (at r : ℕ) (t t' : List ℕ) : Type 0 where
 abbrev pub step_text : Stepped → List ℕ
 step_text x = text_of (value_in blank_event x.says)
 
-pub record PutsStep (x : Stepped) (at : ℕ) (r : Lines) (t t' : List ℕ) : Type 0 where
-  pub outcome : outcome_number r.outcome ≡ number_in x.says
-  pub state : r.state ≡ x.state
+abbrev pub behind_step : Stepped → ℕ → Event → Lines
+behind_step x len e = record { state = x.state; len = len }
+
+pub record PutsStep (x : Stepped) (at : ℕ) (r : Result Lines Refusal) (t t' : List ℕ) : Type 0 where
   pub put : ℕ
-  pub count : r.len ≡ at + put
+  pub gives : Gives (behind_step x (at + put)) x.says r
   pub puts : PutsText (step_text x) at put t t'

@@ -1,7 +1,6 @@
 // The text of an event's line.
-ghost use Rattle.std.specs.Prelude.{◌≡◌, length};
 ghost use Rattle.text.specs.Putting.{EndsWith};
-ghost use Rattle.replay_lines.specs.Text.{longest_text, text_of, read_text, command_text, refused_text, damaged_text};
+ghost use Rattle.replay_lines.specs.Text.{text_of, read_text, command_text, refused_text, damaged_text};
 ghost use Rattle.replay_lines.specs.Lines.{PutsText};
 
 use commands::DirectCommands;
@@ -11,8 +10,7 @@ use text::{put_behind, put_decimal, put_hex, put_numbered, put_word};
 // No text of a line is longer.
 pub(crate) const LONGEST: usize = 64;
 
-fn put_damaged(text: &mut [u8], position: u32, why: u8) -> usize
-    requires { length text.old ≡ longest_text }
+fn put_damaged(text: &mut [u8; LONGEST], position: u32, why: u8) -> usize
     ensures { EndsWith (damaged_text position why) result text.new }
 {
     let space = put_numbered(text, LONGEST, b" ", why as u64);
@@ -20,8 +18,7 @@ fn put_damaged(text: &mut [u8], position: u32, why: u8) -> usize
     put_word(text, block, b"damaged ")
 }
 
-fn put_read(text: &mut [u8], block: u32, place: usize, family: u8, written: usize) -> usize
-    requires { length text.old ≡ longest_text }
+fn put_read(text: &mut [u8; LONGEST], block: u32, place: usize, family: u8, written: usize) -> usize
     ensures { EndsWith (read_text block place family written) result text.new }
 {
     let space = put_numbered(text, LONGEST, b" ", written as u64);
@@ -32,8 +29,7 @@ fn put_read(text: &mut [u8], block: u32, place: usize, family: u8, written: usiz
     put_decimal(text, gap, block as u64)
 }
 
-fn put_refused(text: &mut [u8], block: u32, place: usize, why: u8, own: u8) -> usize
-    requires { length text.old ≡ longest_text }
+fn put_refused(text: &mut [u8; LONGEST], block: u32, place: usize, why: u8, own: u8) -> usize
     ensures { EndsWith (refused_text block place why own) result text.new }
 {
     let space = put_numbered(text, LONGEST, b" ", own as u64);
@@ -44,8 +40,7 @@ fn put_refused(text: &mut [u8], block: u32, place: usize, why: u8, own: u8) -> u
     put_decimal(text, gap, block as u64)
 }
 
-fn put_command(text: &mut [u8], block: u32, place: usize, command: DirectCommands) -> usize
-    requires { length text.old ≡ longest_text }
+fn put_command(text: &mut [u8; LONGEST], block: u32, place: usize, command: DirectCommands) -> usize
     ensures { EndsWith (command_text block place command) result text.new }
 {
     let payload = command.payload;
@@ -55,12 +50,10 @@ fn put_command(text: &mut [u8], block: u32, place: usize, command: DirectCommand
 }
 
 // All of an event's text. A block in order without records has none.
-fn put_event(text: &mut [u8], event: Event) -> usize
-    requires { length text.old ≡ longest_text }
+fn put_event(text: &mut [u8; LONGEST], event: Event) -> usize
     ensures { EndsWith (text_of event) result text.new }
 {
-    let kind = event.kind;
-    match kind {
+    match event.kind {
         Kind::Nothing => LONGEST,
         Kind::Command => {
             let command = event.command;
@@ -81,7 +74,8 @@ fn put_event(text: &mut [u8], event: Event) -> usize
     }
 }
 
-// The text at a place of `out`, where all of it has room there: the answer is its length, else 0.
+// The text at a place of `out`, where all of it has room there: the answer is its length, else 0, as it also is of an event without a
+// line. `list_steps` adds it as it is, so no Option.
 pub(crate) fn put_text(event: Event, out: &mut [u8], at: usize) -> usize
     ensures { PutsText (text_of event) at result out.old out.new }
 {

@@ -2,9 +2,11 @@
 // on, and the answer is where it starts. Nothing here reads or writes.
 #![tactic(auto)]
 
-ghost use Rattle.std.specs.Prelude.{◌≡◌, ◌++◌, ◌+◌, ◌≤◌, ◌<◌, length, drop};
-ghost use Rattle.text.specs.Pieces.{hex_digit, hex_of, most_digits, decimal, numbered_text};
+ghost use Rattle.std.specs.Prelude.{◌≡◌, ◌<◌};
+ghost use Rattle.text.specs.Pieces.{hex_digit, hex_of, decimal, numbered_text};
 ghost use Rattle.text.specs.Putting.{PutsBefore, PutsBehind};
+
+use itoa::write_digits;
 
 // A number below 2^64 has no more.
 const MOST_DIGITS: usize = 20;
@@ -12,13 +14,7 @@ const MOST_DIGITS: usize = 20;
 // With a line's end behind them.
 const LONGEST_END: usize = 21;
 
-fn digit(value: u64) -> u8
-    requires { value < 10 }
-    ensures { result ≡ 48 + value }
-{
-    b'0' + value as u8
-}
-
+// (By hand: std writes all digits of a number, and no zero in front.)
 fn hex_digit(value: u8) -> u8
     requires { value < 16 }
     ensures { result ≡ hex_digit value }
@@ -27,24 +23,6 @@ fn hex_digit(value: u8) -> u8
         b'0' + value
     } else {
         b'A' + (value - 10)
-    }
-}
-
-// The digits in front of what stands from `at` on, where any number's have room.
-fn put_digits(text: &mut [u8], at: usize, number: u64) -> usize
-    requires { (most_digits ≤ at) × (at ≤ length text.old) }
-    ensures upper_bound { result < at }
-    ensures text_after { drop result text.new ≡ decimal number ++ drop at text.old }
-{
-    let mut start = at;
-    let mut rest = number;
-    loop {
-        start -= 1;
-        text[start] = digit(rest % 10);
-        rest = rest / 10;
-        if rest == 0 {
-            return start;
-        }
     }
 }
 
@@ -68,7 +46,7 @@ pub fn put_decimal(text: &mut [u8], at: usize, number: u64) -> usize
     ensures { PutsBefore (decimal number) at result text.old text.new }
 {
     let mut digits = [0u8; MOST_DIGITS];
-    let start = put_digits(&mut digits, MOST_DIGITS, number);
+    let start = write_digits(number, &mut digits, MOST_DIGITS);
     put_word(text, at, &digits[start..])
 }
 
@@ -85,7 +63,7 @@ pub fn put_numbered(text: &mut [u8], at: usize, word: &[u8], number: u64) -> usi
     ensures { PutsBefore (numbered_text word.now number) at result text.old text.new }
 {
     let mut end = [b'\n'; LONGEST_END];
-    let digits = put_digits(&mut end, MOST_DIGITS, number);
+    let digits = write_digits(number, &mut end, MOST_DIGITS);
     if at < word.len() + (LONGEST_END - digits) {
         return at;
     }
@@ -94,6 +72,7 @@ pub fn put_numbered(text: &mut [u8], at: usize, word: &[u8], number: u64) -> usi
 }
 
 // A whole text behind the text that waits, at a place of `out`, where all of it has room there: the answer is its length, else 0.
+// (A number and no Option: what may not change, `PutsBehind` says 0.)
 pub fn put_behind(out: &mut [u8], at: usize, line: &[u8]) -> usize
     ensures { PutsBehind line.now at result out.old out.new }
 {

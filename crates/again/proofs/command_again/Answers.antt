@@ -4,16 +4,16 @@ use Rattle.commands.proofs.Known.{read_some}
 use Rattle.images.proofs.WordLaws.{writes-on, writes-not}
 use Rattle.again.proofs.command_again.Goals as goal
 
-pub returns-in-Accepted : goal.returns-in-Accepted
-returns-in-Accepted c =
+pub returns-in-Ok : goal.returns-in-Ok
+returns-in-Ok c =
     let payload = c.args.payload.now in
-    writes-on (read_command payload) (read_some payload) c.from_bytes-answer.result
-    c.from_bytes-answer.ensures c.to_bytes.result _ _ _ c.in-Accepted.is
+    writes-on (read_command payload) (read_some payload) c.from_bytes.result
+    c.from_bytes.ensures _ c.to_bytes.result _ _ _ c.in-Ok.is
     c.to_bytes.ensures c.written.ensures
 
-pub returns-in-Refused : goal.returns-in-Refused
-returns-in-Refused c =
+pub returns-in-Err : goal.returns-in-Err
+returns-in-Err c =
     let payload = c.args.payload.now in
-    writes-not (read_command payload) (read_some payload) c.from_bytes-answer.result
-    c.from_bytes-answer.ensures c.in-Refused.why _ _ c.in-Refused.is
+    writes-not (read_command payload) (read_some payload) c.from_bytes.result
+    c.from_bytes.ensures c.in-Err.why _ _ c.in-Err.is
     c.refused.ensures

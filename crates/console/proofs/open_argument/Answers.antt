@@ -1,10 +1,9 @@
--- `open_argument` meets its contract: the argument stands behind the program's name. Assumes nothing.
-use Rattle.std.proofs.Common.{arith}
-use Rattle.console.proofs.NameLaws.{argument_named}
+-- `open_argument` meets its contract: the argument stands behind the program's name, and the file is named by all of it. Assumes nothing.
+use lib.Seq.{length-take-le}
+use Rattle.console.proofs.NameLaws.{argument_named, sized_named}
 use Rattle.console.proofs.open_argument.Goals as goal
 
-pub open_named-requires : goal.open_named-requires
-open_named-requires c =
-    let named = argument_named c.args.program.now c.put_name-from.ensures c.if-from-eq0.false
-    c.in-Ok.len c.arg.new.buf c.in-Ok.ensures.bound in
-    (named, omega arith)
+pub returns-in-File : goal.returns-in-File
+returns-in-File c =
+    let named = argument_named _ _ _ _ c.in-Some.ensures c.in-Ok.len c.arg.new.buf c.in-Ok.ensures.bound in
+    sized_named c.open_file.result named (rw (length-take-le _ _ named.fits) at c.open_file.ensures)

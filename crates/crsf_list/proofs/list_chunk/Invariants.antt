@@ -6,9 +6,9 @@ use lib.ListN.{length}
 use Rattle.listing.proofs.Parts.{SoFar}
 use Rattle.crsf_list.proofs.list_chunk.Given as goal
 
-abbrev pub invariant-loop-first : goal.invariant-loop-first
-invariant-loop-first l =
+abbrev pub invariant-loop-listed : goal.invariant-loop-listed
+invariant-loop-listed l =
     SoFar (length l.initial.text) l.first l.input l.turn l.state l.at × (length l.text ≡ length l.initial.text)
 
-abbrev pub decreases-loop-first : goal.decreases-loop-first
-decreases-loop-first l = length l.input - l.at
+abbrev pub decreases-loop-listed : goal.decreases-loop-listed
+decreases-loop-listed l = length l.input - l.at

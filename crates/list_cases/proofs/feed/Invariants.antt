@@ -1,12 +1,11 @@
--- `feed` meets its contract. Assumes nothing.
-use Prim.Native.Nat.{◌-◌, ◌≤◌}
+-- `feed` meets its contract: the text so far is within its room. Assumes nothing.
+use Prim.Native.Nat.{◌≤◌}
 use mathlib.Core.Path.{◌≡◌}
 use lib.ListN.{length}
 use Rattle.list_cases.proofs.feed.Given as goal
 
-abbrev pub invariant-loop-turn : goal.invariant-loop-turn
-invariant-loop-turn l =
-    (l.len ≤ length l.initial.text) × (length l.text ≡ length l.initial.text)
-
-abbrev pub decreases-loop-turn : goal.decreases-loop-turn
-decreases-loop-turn l = 18446744073709551615 - l.turn
+abbrev pub invariant-loop-chunk : goal.invariant-loop-chunk
+invariant-loop-chunk l =
+    (goal.iterator-loop-chunk).can_next l.chunk-iterator
+    × ((goal.iterator-loop-chunk).is_finite l.chunk-iterator
+    × ((l.len ≤ length l.initial.text) × (length l.text ≡ length l.initial.text)))

@@ -3,8 +3,8 @@ use Prim.Native.Nat.{◌-◌}
 use Rattle.replay_lines.proofs.Listing.{Listing}
 use Rattle.replay_lines.proofs.list_steps.Given as goal
 
-abbrev pub invariant-loop-step : goal.invariant-loop-step
-invariant-loop-step l = Listing l.initial.at l.position l.block l.initial.text l.at l.len l.text
+abbrev pub invariant-loop-lines : goal.invariant-loop-lines
+invariant-loop-lines l = Listing l.initial.lines.state l.position l.block l.initial.text l.lines.state l.lines.len l.text
 
-abbrev pub decreases-loop-step : goal.decreases-loop-step
-decreases-loop-step l = 512 - l.at.place
+abbrev pub decreases-loop-lines : goal.decreases-loop-lines
+decreases-loop-lines l = 512 - l.lines.state.place

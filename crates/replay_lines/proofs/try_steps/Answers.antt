@@ -1,42 +1,20 @@
 -- `try_steps` meets its contract: each step goes on in the block, up to the last or the one that refuses. Assumes nothing.
-use native.Mathlib.Omega.{arith}
-use mathlib.Core.Path.{ap, sym, subst, ◌∙◌}
-use mathlib.Core.List.{List, []}
-use Rattle.replay.specs.declared.Event.{Event}
-use Rattle.codec.specs.Refusals.{outcome_number, number_in}
-use Rattle.replay.specs.declared.Replay.{Replay}
-use Rattle.replay_lines.proofs.Stepping.{Going, going_starts, step-says, says_on, says-stops, going-stops, going-ends, going_turn}
+use mathlib.Core.List.{[]}
+use Rattle.codec.proofs.Outcomes.{err_is}
+use Rattle.replay_lines.proofs.Stepping.{going_starts, tried-ends, tried_turn, tried_less, tried-stops}
 use Rattle.replay_lines.proofs.try_steps.Goals as goal
 
-pub loop-outcome-init : goal.loop-outcome-init
-loop-outcome-init c = ([], going_starts _ _ _)
+pub loop-step-init : goal.loop-step-init
+loop-step-init c = ([], going_starts _ _ _)
 
-pub returns-then-next-eq0 : goal.returns-then-next-eq0
-returns-then-next-eq0 c =
-    let given = c.args in
-    let stepped = c.next-step.ensures in
-    let said = says_on (step-says c.loop-outcome.at given.position given.block.now) stepped.outcome c.in-Accepted.is in
-    ap outcome_number c.in-Accepted.is
-    ∙ sym (ap number_in (going-ends c.loop-outcome.invariant.1 said.1.0 (ap (λ (s : Replay). s.place) (sym stepped.state) ∙ c.if-next-eq0.true)))
+pub returns-in_err-step : goal.returns-in_err-step
+returns-in_err-step c = tried-stops c.loop-step.invariant.1 _ _ (err_is _ _ c.from_residual.ensures) c.in_err-step.ensures
 
-pub loop-outcome-smaller : goal.loop-outcome-smaller
-loop-outcome-smaller c =
-    let given = c.args in
-    let stepped = c.next-step.ensures in
-    let said = says_on (step-says c.loop-outcome.at given.position given.block.now) stepped.outcome c.in-Accepted.is in
-    let far = said.1.1.next (λ z. c.if-next-eq0.false (ap (λ (s : Replay). s.place) stepped.state ∙ z)) in
-    omega (arith, far.0, far.1.1, ap (λ (s : Replay). s.place) stepped.state)
+pub returns-then-at-eq0 : goal.returns-then-at-eq0
+returns-then-at-eq0 c = tried-ends c.loop-step.invariant.1 c.in_ok-step.step c.in_ok-step.ensures c.if-at-eq0.true
 
-pub loop-outcome-preserved : goal.loop-outcome-preserved
-loop-outcome-preserved c =
-    let given = c.args in
-    let stepped = c.next-step.ensures in
-    let said = says_on (step-says c.loop-outcome.at given.position given.block.now) stepped.outcome c.in-Accepted.is in
-    subst (λ (s : Replay). (so_far : List Event) × Going given.state given.position given.block.now s so_far) (sym stepped.state)
-    (_, going_turn c.loop-outcome.invariant.1 said.1.0 said.1.1 (λ z. c.if-next-eq0.false (ap (λ (s : Replay). s.place) stepped.state ∙ z)))
+pub loop-step-smaller : goal.loop-step-smaller
+loop-step-smaller c = tried_less c.loop-step.invariant.1 c.in_ok-step.step c.in_ok-step.ensures c.if-at-eq0.false
 
-pub returns-in-Refused : goal.returns-in-Refused
-returns-in-Refused c =
-    let given = c.args in
-    let said = says-stops (step-says c.loop-outcome.at given.position given.block.now) c.next-step.ensures.outcome _ c.in-Refused.is in
-    ap outcome_number c.in-Refused.is ∙ said.1.1 ∙ sym (ap number_in (going-stops c.loop-outcome.invariant.1 5 0 said.0))
+pub loop-step-preserved : goal.loop-step-preserved
+loop-step-preserved c = tried_turn c.loop-step.invariant.1 c.in_ok-step.step c.in_ok-step.ensures c.if-at-eq0.false

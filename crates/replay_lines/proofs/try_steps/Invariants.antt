@@ -5,8 +5,8 @@ use Rattle.replay.specs.declared.Event.{Event}
 use Rattle.replay_lines.proofs.Stepping.{Going}
 use Rattle.replay_lines.proofs.try_steps.Given as goal
 
-abbrev pub invariant-loop-outcome : goal.invariant-loop-outcome
-invariant-loop-outcome l = (so_far : List Event) × Going l.initial.at l.position l.block l.at so_far
+abbrev pub invariant-loop-step : goal.invariant-loop-step
+invariant-loop-step l = (so_far : List Event) × Going l.initial.at l.position l.block l.at so_far
 
-abbrev pub decreases-loop-outcome : goal.decreases-loop-outcome
-decreases-loop-outcome l = 512 - l.at.place
+abbrev pub decreases-loop-step : goal.decreases-loop-step
+decreases-loop-step l = 512 - l.at.place

@@ -3,36 +3,22 @@ use Prim.Native.Nat.{◌-◌}
 use mathlib.Core.Path.{◌≡◌}
 use native.Mathlib.Omega.{arith}
 use lib.ListN.{length}
+use Rattle.codec.proofs.Outcomes.{err_is}
+use Rattle.commands.proofs.Answers.{addressed_is, unaddressed}
 use Rattle.commands.proofs.KindLaws.{judged-long, judged_read, judged-refused}
-use borrow.Author.Rules.{rules}
 use Rattle.commands.proofs.DirectCommands.from_bytes.Goals as goal
 
-pub bounds-payload-0 : goal.bounds-payload-0
-bounds-payload-0 c =
-    let l = judged-long c.args.payload.now _ c.judge.ensures c.in-Accepted.is in search rules
+pub returns-in_err-judge : goal.returns-in_err-judge
+returns-in_err-judge c = rw (err_is _ _ c.from_residual.ensures, judged-refused c.args.payload.now _ c.in_err-judge.ensures)
 
-pub bounds-payload-1 : goal.bounds-payload-1
-bounds-payload-1 c =
-    let l = judged-long c.args.payload.now _ c.judge.ensures c.in-Accepted.is in search rules
-
-pub bounds-payload-2 : goal.bounds-payload-2
-bounds-payload-2 c =
-    let l = judged-long c.args.payload.now _ c.judge.ensures c.in-Accepted.is in search rules
-
-pub overflow_sub-payload : goal.overflow_sub-payload
-overflow_sub-payload c =
-    let l = judged-long c.args.payload.now _ c.judge.ensures c.in-Accepted.is in search rules
-
-pub slice_bounds-read_family-count : goal.slice_bounds-read_family-count
-slice_bounds-read_family-count c =
-    let l = judged-long c.args.payload.now _ c.judge.ensures c.in-Accepted.is in search rules
-
-pub returns-in-Accepted : goal.returns-in-Accepted
-returns-in-Accepted c =
+pub returns-in_err-command : goal.returns-in_err-command
+returns-in_err-command c =
+    let l = judged-long c.args.payload.now c.in_ok-judge.ensures in
     let e : length c.args.payload.now - 4 ≡ length c.args.payload.now - 1 - 3 = omega arith in
-    rw (judged_read c.args.payload.now _ c.judge.ensures c.in-Accepted.is, e)
-    c.read_family.ensures
+    rw (err_is _ _ c.from_residual-in_err-command.ensures, judged_read c.args.payload.now c.in_ok-judge.ensures, e) (unaddressed _ _ _ _ c.in_err-command.ensures)
 
-pub returns-in-Refused : goal.returns-in-Refused
-returns-in-Refused c =
-    rw (judged-refused c.args.payload.now _ _ c.judge.ensures c.in-Refused.is) c.refused_with.ensures
+pub returns : goal.returns
+returns c =
+    let l = judged-long c.args.payload.now c.in_ok-judge.ensures in
+    let e : length c.args.payload.now - 4 ≡ length c.args.payload.now - 1 - 3 = omega arith in
+    rw (judged_read c.args.payload.now c.in_ok-judge.ensures, e) (addressed_is _ _ _ _ c.in_ok-command.ensures)

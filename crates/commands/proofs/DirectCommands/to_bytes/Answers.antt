@@ -8,24 +8,24 @@ use Rattle.commands.specs.Writing.Equation.{payload_is}
 use Rattle.commands.proofs.Written.{stop_unmade, stop-short, stop-body}
 use Rattle.commands.proofs.DirectCommands.to_bytes.Goals as goal
 
+pub returns-then-not-is_made : goal.returns-then-not-is_made
+returns-then-not-is_made c =
+    writes-stop (stop_writing c.args.self (length c.args.buffer.now))
+    (payload_of c.args.self) c.args.buffer.now RecordNotMade
+    (stop_unmade c.args.self (length c.args.buffer.now)
+    (sym c.is_made.ensures ∙ c.if-not-is_made.true))
+
 pub returns-then-buffer-lt-MIN_PAYLOAD_SIZE : goal.returns-then-buffer-lt-MIN_PAYLOAD_SIZE
 returns-then-buffer-lt-MIN_PAYLOAD_SIZE c =
     writes-stop (stop_writing c.args.self (length c.args.buffer.now))
     (payload_of c.args.self) c.args.buffer.now BufferOverflow
     (stop-short c.args.self (length c.args.buffer.now)
-    (sym c.is_made.ensures ∙ c.if-is_made.true) c.if-buffer-lt-MIN_PAYLOAD_SIZE.true)
-
-pub returns-then-is_made : goal.returns-then-is_made
-returns-then-is_made c =
-    rw (
-      stop-body c.args.self (length c.args.buffer.now)
-          (sym c.is_made.ensures ∙ c.if-is_made.true) c.if-buffer-lt-MIN_PAYLOAD_SIZE.false,
-      payload_is c.args.self,
-    ) c.write_made.ensures
+    (sym c.is_made.ensures ∙ c.if-not-is_made.false) c.if-buffer-lt-MIN_PAYLOAD_SIZE.true)
 
 pub returns : goal.returns
 returns c =
-    writes-stop (stop_writing c.args.self (length c.args.buffer.now))
-    (payload_of c.args.self) c.args.buffer.now RecordNotMade
-    (stop_unmade c.args.self (length c.args.buffer.now)
-    (sym c.is_made.ensures ∙ c.if-is_made.false))
+    rw (
+      stop-body c.args.self (length c.args.buffer.now)
+          (sym c.is_made.ensures ∙ c.if-not-is_made.false) c.if-buffer-lt-MIN_PAYLOAD_SIZE.false,
+      payload_is c.args.self,
+    ) c.write_made.ensures

@@ -3,28 +3,15 @@ use Prim.Native.Nat.{◌-◌}
 use mathlib.Core.Path.{◌≡◌}
 use native.Mathlib.Omega.{arith}
 use lib.ListN.{length}
-use Rattle.commands.proofs.KindLaws.{judged-long, judged-kind, judged-refused}
-use borrow.Author.Rules.{rules}
+use Rattle.codec.proofs.Outcomes.{err_is}
+use Rattle.commands.proofs.KindLaws.{judged-long, judged-kind, judged-refused, kept_kind}
 use Rattle.commands.proofs.kind.read.Goals as goal
 
-pub bounds-payload-2 : goal.bounds-payload-2
-bounds-payload-2 c =
-    let l = judged-long c.args.payload.now _ c.judge.ensures c.in-Accepted.is in search rules
+pub returns-in_err-judge : goal.returns-in_err-judge
+returns-in_err-judge c = rw (err_is _ _ c.from_residual.ensures, judged-refused c.args.payload.now _ c.in_err-judge.ensures)
 
-pub overflow_sub-payload : goal.overflow_sub-payload
-overflow_sub-payload c =
-    let l = judged-long c.args.payload.now _ c.judge.ensures c.in-Accepted.is in search rules
-
-pub slice_bounds-of_family-count : goal.slice_bounds-of_family-count
-slice_bounds-of_family-count c =
-    let l = judged-long c.args.payload.now _ c.judge.ensures c.in-Accepted.is in search rules
-
-pub returns-in-Accepted : goal.returns-in-Accepted
-returns-in-Accepted c =
+pub returns : goal.returns
+returns c =
+    let l = judged-long c.args.payload.now c.in_ok-judge.ensures in
     let e : length c.args.payload.now - 4 ≡ length c.args.payload.now - 1 - 3 = omega arith in
-    rw (judged-kind c.args.payload.now _ c.judge.ensures c.in-Accepted.is, e)
-    c.of_family.ensures
-
-pub returns-in-Refused : goal.returns-in-Refused
-returns-in-Refused c =
-    rw (judged-refused c.args.payload.now _ _ c.judge.ensures c.in-Refused.is)
+    rw (judged-kind c.args.payload.now c.in_ok-judge.ensures, e) (kept_kind _ _ c.read_family.ensures)

@@ -2,7 +2,6 @@
 use native.Mathlib.Omega.{arith}
 use mathlib.Core.Path.{◌≡◌, ap}
 use lib.ListN.{length}
-use Rattle.commands.specs.Command.{blank_command}
 use Rattle.commands.specs.Reading.{read_command}
 use Rattle.images.specs.Record.{record_image}
 use Rattle.images.proofs.RecordLaws.{record_size_lem}
@@ -14,21 +13,19 @@ use Rattle.crsf.proofs.command.crsf_read.Goals as goal
 pub returns-then-image-lt-RECORD_SIZE : goal.returns-then-image-lt-RECORD_SIZE
 returns-then-image-lt-RECORD_SIZE c = short record_image 70 _ _ _ c.if-image-lt-RECORD_SIZE.true c.refused.ensures
 
-pub returns-in-Accepted : goal.returns-in-Accepted
-returns-in-Accepted c =
-    let long : length c.from_bytes-answer.result.command.bytes ≡ 55 = search rules in
+pub returns-in-Ok : goal.returns-in-Ok
+returns-in-Ok c =
+    let read = c.in-Ok.command in
+    let long : length read.bytes ≡ 55 = search rules in
     let image = c.args.image.now in
     let a = read_command c.args.payload.now in
-    let read = c.from_bytes-answer.result.command in
     in_room record_image 70 image a 0 _ c.if-image-lt-RECORD_SIZE.false
-    (hands record_image image a (read_some _) _ c.from_bytes-answer.ensures.0 blank_command (record_image read) _
-    c.in-Accepted.is (ap record_image c.from_bytes-answer.ensures.1)
-    (omega (arith, record_size_lem read (long))) c.put.ensures)
+    (hands record_image (λ k. k) image a read (record_image read) _ c.in-Ok.ensures (λ v e. ap record_image e)
+    (omega (arith, record_size_lem read long)) c.put.ensures)
 
-pub returns-in-Refused : goal.returns-in-Refused
-returns-in-Refused c =
+pub returns-in-Err : goal.returns-in-Err
+returns-in-Err c =
     let image = c.args.image.now in
     let a = read_command c.args.payload.now in
     in_room record_image 70 image a _ _ c.if-image-lt-RECORD_SIZE.false
-    (refuses record_image image a (read_some _) _ c.from_bytes-answer.ensures.0 _ _ c.in-Refused.is
-    c.refused-in-Refused.ensures)
+    (refuses record_image (λ k. k) image a (read_some _) _ _ c.in-Err.ensures c.refused-in-Err.ensures)

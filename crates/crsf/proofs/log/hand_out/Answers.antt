@@ -15,10 +15,10 @@ use Rattle.crsf.proofs.log.hand_out.Goals as goal
 
 pub returns : goal.returns
 returns c =
-    let long : length c.args.told.command.bytes ≡ 55 = search rules in
+    let long : length c.args.step.event.command.bytes ≡ 55 = search rules in
     let given = c.args in
-    let event = given.told in
-    let after = given.after in record {
+    let event = given.step.event in
+    let after = given.step.state in record {
       replay_after = c.put.ensures ∙ put-fits given.replay.now 0 (state_image after) (omega (arith, c.requires.0));
       event_after = c.put-2.ensures
           ∙ ap (λ (m : Bool). put_at given.event.now 0 (event_image m event)) (more_is after)

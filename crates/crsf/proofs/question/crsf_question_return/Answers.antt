@@ -6,19 +6,15 @@ use Rattle.crsf.proofs.Questioned.{no-question, question-room, is_called}
 use Rattle.crsf.proofs.question.crsf_question_return.Goals as goal
 
 pub hand_back-requires : goal.hand_back-requires
-hand_back-requires c =
-    question-room c.args.image.now c.from-read.result c.from-read.ensures c.in-Accepted.is
+hand_back-requires c = question-room c.args.image.now c.in-Ok.question c.in-Ok.ensures
 
-pub returns-in-Accepted : goal.returns-in-Accepted
-returns-in-Accepted c =
+pub returns : goal.returns
+returns c =
     let given = c.args in
-    is_called given.image.now c.from-read.result c.from-read.ensures c.in-Accepted.is _
-    (returned given.second given.value given.response) c.returned.result _ _ refl c.returned.ensures
-    c.hand_back.ensures
+    is_called given.image.now c.in-Ok.question c.in-Ok.ensures _ (returned given.second given.value given.response) _ _ _ _ refl
+    c.returned-reply.ensures c.hand_back.ensures
 
-pub returns-in-Refused : goal.returns-in-Refused
-returns-in-Refused c =
+pub returns-in-Err : goal.returns-in-Err
+returns-in-Err c =
     let given = c.args in
-    let call = returning given.second given.value given.response in
-    no-question given.image.now c.from-read.result c.from-read.ensures
-    (call_in call) c.in-Refused.why _ c.in-Refused.is c.refused.ensures
+    no-question given.image.now (call_in (returning given.second given.value given.response)) c.in-Err.why _ c.in-Err.ensures c.refused.ensures

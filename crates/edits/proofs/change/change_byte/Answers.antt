@@ -6,28 +6,30 @@ use Rattle.edits.proofs.change.change_byte.Goals as goal
 
 pub overflow_cast-old : goal.overflow_cast-old
 overflow_cast-old c =
-    let h = (c.type_inv.payload c.args.at).fits in
+    let h = (c.type_inv.payload c.args.row.place).fits in
     record { fits = omega (arith, h) }
 
 pub replace-requires : goal.replace-requires
-replace-requires c = (
-  c.requires.counts,
-  (
-    c.requires.values,
-    rw (byte-number c.args.payload.now c.args.at (omega (arith, c.requires.there))) at c.requires.fits,
-  ),
-)
+replace-requires c =
+    let takes = rw c.requires.1 at c.requires.0 in (
+      takes.counts,
+      (
+        takes.values,
+        rw (byte-number c.args.payload.now c.args.row.place (omega (arith, takes.there))) at takes.fits,
+      ),
+    )
 
 pub bounds-payload-last : goal.bounds-payload-last
 bounds-payload-last c =
-    lt-length-set c.args.payload.now c.args.at _ (omega (arith, c.requires.there))
+    lt-length-set c.args.payload.now c.args.row.place _ (omega (arith, c.requires.0.there))
 
 pub bounds-payload-last-2 : goal.bounds-payload-last-2
 bounds-payload-last-2 c =
-    lt-length-set c.args.payload.now c.args.at _ (omega (arith, c.requires.there))
+    lt-length-set c.args.payload.now c.args.row.place _ (omega (arith, c.requires.0.there))
 
 pub returns : goal.returns
 returns c =
-    check-byte c.args.payload.now c.args.at c.args.unit c.args.many
-    c.args.number _ _ (c.slice_known-1.given c.args.at).fits c.requires.there
-    c.replace.ensures c.check_with_zeros.ensures
+    let takes = rw c.requires.1 at c.requires.0 in
+    rw c.requires.1 (check-byte c.args.payload.now c.args.row.place c.args.row.unit c.args.row.many
+    c.args.number _ _ (c.slice_known-1.given c.args.row.place).fits takes.there
+    c.replace.ensures c.check_with_zeros.ensures)

@@ -4,6 +4,6 @@ use Rattle.edits.proofs.change.change_bytes.Goals as goal
 
 pub returns : goal.returns
 returns c =
-    check-put c.args.payload.now _ c.args.at c.args.width _ _ _ _ _ _ c.requires.there
+    check-put c.args.payload.now _ c.args.row.place c.args.row.width _ _ _ _ _ _ c.requires.there
     c.put_field.ensures c.check-before.ensures c.check-after.ensures
     c.check_with_zeros.ensures

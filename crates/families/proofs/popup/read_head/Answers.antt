@@ -1,14 +1,22 @@
 -- `popup::read_head` meets its contract: the head's items taken in a row stand at the places that follow from its texts' lengths. Assumes nothing.
-use Rattle.families.proofs.PopupTaken.{text-short, head_taken}
+use mathlib.Core.Path.{sym}
+use mathlib.Core.List.{[], ◌∷◌}
+use Rattle.codec.specs.Sheet.{byte, flag}
+use Rattle.families.specs.Sheets.{text_item}
+use Rattle.std.proofs.lemmas.Result.{err_from_is_err_and}
+use Rattle.codec.proofs.InRow.{item_not}
+use Rattle.families.proofs.PopupTaken.{head_taken, after_got}
 use Rattle.families.proofs.popup.read_head.Goals as goal
 
-pub head_of-requires : goal.head_of-requires
-head_of-requires c = (
-  text-short _ c.string-header.result (c.string-header.ensures.0.0, c.string-header.ensures.1),
-  (text-short _ c.string-info.result (c.string-info.ensures.0.0, c.string-info.ensures.1), c.byte-timeout.ensures.1),
-)
+pub returns-in_err-close : goal.returns-in_err-close
+returns-in_err-close c =
+    let p = err_from_is_err_and c.from_residual-in_err-close.result c.from_residual-in_err-close.ensures.1 in
+    rw (p.1, p.2) (
+      rw c.new-input.ensures at
+          (after_got text_item (text_item ∷ byte ∷ flag ∷ []) _ _ _ _ c.in_ok-header.ensures.0 (after_got text_item (byte ∷ flag ∷ []) _ _ _ _ c.in_ok-info.ensures.0 (after_got byte (flag ∷ []) _ _ _ _ c.in_ok-timeout.ensures.0 (sym (item_not flag [] _ _ _ c.in_err-close.ensures.0))))),
+      tt,
+    )
 
 pub returns : goal.returns
-returns c = rw c.head_of.ensures (rw c.new-input.ensures at
-    (head_taken _ _ _ _ _ c.string-header.result c.string-info.result c.byte-timeout.result c.boolean-close.result
-    c.string-header.ensures c.string-info.ensures c.byte-timeout.ensures c.boolean-close.ensures))
+returns c = rw c.new-input.ensures at
+    (head_taken _ _ _ _ _ _ _ _ _ c.in_ok-header.ensures c.in_ok-info.ensures c.in_ok-timeout.ensures c.in_ok-close.ensures)

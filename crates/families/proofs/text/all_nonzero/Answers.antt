@@ -1,25 +1,14 @@
 -- `text::all_nonzero` meets its contract. Assumes nothing.
-use mathlib.Core.Path.{refl, ◌∙◌, sym}
-use native.Mathlib.Omega.{arith}
-use borrow.Author.Rules.{rules}
-use Rattle.families.proofs.Stored.{nonzero-stop, nonzero-on, nonzero_end}
+use mathlib.Core.Path.{◌∙◌}
+use mathlib.Core.Bool.{not}
+use lib.Dec.{eqb}
+use Rattle.std.proofs.Common.{rules, tests}
+use Rattle.std.proofs.lemmas.Iterator.{YieldsList-from_slice}
+use Rattle.std.proofs.lemmas.Iterator.Search.{all_from_yields_List}
+use Rattle.families.proofs.Stored.{all-nonzero}
 use Rattle.families.proofs.text.all_nonzero.Goals as goal
 
-pub loop-i-init : goal.loop-i-init
-loop-i-init c = (omega arith, refl)
-
-pub returns-then-s-i-eq0 : goal.returns-then-s-i-eq0
-returns-then-s-i-eq0 c = sym (c.loop-i.invariant.1
-    ∙ nonzero-stop c.args.s.now c.loop-i.i
-    c.loop-i-test.true c.if-s-i-eq0.true)
-
-pub loop-i-preserved : goal.loop-i-preserved
-loop-i-preserved c = (
-  search rules,
-  c.loop-i.invariant.1
-      ∙ nonzero-on c.args.s.now c.loop-i.i
-      c.loop-i-test.true c.if-s-i-eq0.false,
-)
-
 pub returns : goal.returns
-returns c = sym (c.loop-i.invariant.1 ∙ nonzero_end c.args.s.now c.loop-i.i c.loop-i-test.false)
+returns c =
+    all_from_yields_List (λ byte. not (eqb byte 0)) _ _ c.all.result c.all.ensures.ran (YieldsList-from_slice _ c.iter.ensures.rest) (λ x b q k. search (rules, tests))
+    ∙ all-nonzero c.args.s.now

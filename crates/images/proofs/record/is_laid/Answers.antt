@@ -1,14 +1,9 @@
 -- Another id, or what the values say. Assumes nothing.
-use Rattle.images.proofs.RecordLaws.{id_differs, values_decide}
+use native.Mathlib.Omega.{arith}
+use Rattle.images.proofs.RecordLaws.{values_decide}
 use Rattle.images.proofs.record.is_laid.Goals as goal
 
-pub returns-then-image-id : goal.returns-then-image-id
-returns-then-image-id c = id_differs c.args.image.now
-    c.args.payload c.command_id-id.result
-    c.requires c.command_id-id.ensures c.if-image-id.true
-
-pub returns : goal.returns
-returns c =
-    values_decide c.args.image.now c.payload_laid-values.result c.args.payload
-    c.command_id-id.result _ c.requires c.command_id-id.ensures c.if-image-id.false
-    c.payload_laid-values.ensures c.same_bytes.ensures
+pub returns-then-image-command_id : goal.returns-then-image-command_id
+returns-then-image-command_id c =
+    values_decide c.args.image.now c.payload_laid-values.result c.args.payload c.command_id.result _ (omega arith)
+    c.command_id.ensures c.if-image-command_id.true c.payload_laid-values.ensures c.starts_with.ensures.value

@@ -4,8 +4,8 @@ use lib.ListN.{length}
 use Rattle.listing.proofs.Parts.{Filling}
 use Rattle.listing.proofs.Listing.fill.Given as goal
 
-abbrev pub invariant-loop-line : goal.invariant-loop-line
-invariant-loop-line l = Filling l.initial.state l.input l.at l.initial.text l.state l.place l.len l.text
+abbrev pub invariant-loop-step : goal.invariant-loop-step
+invariant-loop-step l = Filling l.initial.state l.input l.at l.initial.text l.state l.place l.len l.text
 
-abbrev pub decreases-loop-line : goal.decreases-loop-line
-decreases-loop-line l = length l.initial.text - l.len
+abbrev pub decreases-loop-step : goal.decreases-loop-step
+decreases-loop-step l = length l.initial.text - l.len

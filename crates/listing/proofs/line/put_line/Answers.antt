@@ -5,20 +5,12 @@ use Rattle.listing.specs.declared.line.Line.TheVariants.{Cut, End}
 use Rattle.listing.proofs.TextLaws.{longest}
 use Rattle.listing.proofs.line.put_line.Goals as goal
 
-pub returns-in-Read : goal.returns-in-Read
-returns-in-Read c =
-    rw c.in-Read.is c.put_read.ensures
-
-pub returns-in-Refused : goal.returns-in-Refused
-returns-in-Refused c =
-    rw c.in-Refused.is c.put_refused.ensures
-
 pub returns-in-Cut : goal.returns-in-Cut
 returns-in-Cut c =
-    rw c.in-Cut.is (grown_first c.requires c.put_numbered.ensures
+    rw c.in-Cut.is (grown_first {n = 64} (omega arith) c.put_numbered.ensures
     (longest (Cut c.in-Cut.count) (omega arith))).ends
 
 pub returns-in-End : goal.returns-in-End
 returns-in-End c =
-    rw c.in-End.is (grown_first c.requires c.put_numbered-in-End.ensures
+    rw c.in-End.is (grown_first {n = 64} (omega arith) c.put_numbered-in-End.ensures
     (longest (End c.in-End.count) (omega arith))).ends

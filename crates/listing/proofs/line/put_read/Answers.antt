@@ -10,7 +10,7 @@ pub returns : goal.returns
 returns c =
     let given = c.args in
     let last = end_length given.written (omega arith) in
-    let space = grown_first c.requires c.put_numbered-space.ensures (omega arith) in
+    let space = grown_first {n = 64} (omega arith) c.put_numbered-space.ensures (omega arith) in
     let id = grown_more space c.put_hex-id.ensures (omega arith) in
     let word = grown_more id c.put_word-word.ensures (omega arith) in
     (grown_more word c.put_decimal.ensures

@@ -10,6 +10,6 @@ pub returns : goal.returns
 returns c =
     let given = c.args in
     let last = end_length given.why (omega arith) in
-    let word = grown_first c.requires c.put_numbered-word.ensures (omega arith) in
+    let word = grown_first {n = 64} (omega arith) c.put_numbered-word.ensures (omega arith) in
     (grown_more word c.put_decimal.ensures
     (longest (Refused given.count given.why) (omega arith, omega arith))).ends

@@ -1,12 +1,12 @@
 -- `Replay::next` meets its contract. Assumes nothing.
 use borrow.Author.Tests.{eq-eqb, ne_eqb}
-use mathlib.Core.Path.{◌∙◌, sym}
+use mathlib.Core.Path.{◌∙◌, refl, sym}
 use Rattle.replay.proofs.Replay.next.Goals as goal
 
 pub returns-then-not-in_limits : goal.returns-then-not-in_limits
 returns-then-not-in_limits c =
     let e = sym c.in_limits.ensures ∙ c.if-not-in_limits.true in
-    rw e c.beyond.ensures
+    rw e refl
 
 pub returns-then-self-eq0 : goal.returns-then-self-eq0
 returns-then-self-eq0 c =

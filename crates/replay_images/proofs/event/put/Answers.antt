@@ -19,6 +19,5 @@ pub returns : goal.returns
 returns c =
     let long : length c.args.event.command.bytes ≡ 55 = search rules in
     let event = c.args.event in
-    behind-put (head_image event.kind c.args.more event.block event.place event.number event.payload_place)
-    (record_image event.command) c.args.out.now _ _ 10 70 c.if-out-lt-EVENT_SIZE.false refl (record_size_lem event.command (long))
+    behind-put (head_image c.args.more event) (record_image event.command) c.args.out.now _ _ 10 70 c.if-out-lt-EVENT_SIZE.false refl (record_size_lem event.command (long))
     c.put_head.ensures c.put.ensures

@@ -10,6 +10,6 @@ returns c =
     let given = c.args in
     let end = byte-length given.why newline (omega arith) in
     let named = word-length given.position (numbered_text space given.why) (omega arith) in
-    let behind = grown_first c.requires c.put_numbered-space.ensures (omega arith) in
+    let behind = grown_first {n = 64} (omega arith) c.put_numbered-space.ensures (omega arith) in
     let block = grown_more behind c.put_decimal-block.ensures (omega arith) in
     (grown_more block c.put_word.ensures (omega arith)).ends

@@ -8,8 +8,8 @@ use Rattle.replay_lines.proofs.line.put_event.Goals as goal
 pub returns-in-Nothing : goal.returns-in-Nothing
 returns-in-Nothing c =
     rw c.in-Nothing.is (record {
-      start = omega (arith, c.requires);
-      bytes = drop_of_length-le c.args.text.now {i = 64} (omega (arith, c.requires));
+      start = omega arith;
+      bytes = drop_of_length-le c.args.text.now {i = 64} (omega arith);
     })
 
 pub returns-in-Command : goal.returns-in-Command
@@ -27,9 +27,9 @@ returns-in-Damaged c =
 pub returns-in-Gap : goal.returns-in-Gap
 returns-in-Gap c =
     let last = end_length c.args.event.block (omega arith) in
-    rw c.in-Gap.is (grown_first c.requires c.put_numbered.ensures (omega arith)).ends
+    rw c.in-Gap.is (grown_first {n = 64} (omega arith) c.put_numbered.ensures (omega arith)).ends
 
 pub returns-in-Back : goal.returns-in-Back
 returns-in-Back c =
     let last = end_length c.args.event.block (omega arith) in
-    rw c.in-Back.is (grown_first c.requires c.put_numbered-in-Back.ensures (omega arith)).ends
+    rw c.in-Back.is (grown_first {n = 64} (omega arith) c.put_numbered-in-Back.ensures (omega arith)).ends

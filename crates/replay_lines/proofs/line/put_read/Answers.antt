@@ -15,7 +15,7 @@ returns c =
     let last = end_length given.written (omega arith) in
     let place-length = wide-length given.place said (omega arith) in
     let block-length = word-length given.block (space ++ placed) (omega arith) in
-    let behind = grown_first c.requires c.put_numbered-space.ensures (omega arith) in
+    let behind = grown_first {n = 64} (omega arith) c.put_numbered-space.ensures (omega arith) in
     let id = grown_more behind c.put_hex-id.ensures (omega arith) in
     let word = grown_more id c.put_word-word.ensures (omega arith) in
     let place = grown_more word c.put_decimal-digits.ensures (omega arith) in

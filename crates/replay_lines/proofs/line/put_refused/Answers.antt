@@ -16,7 +16,7 @@ returns c =
     let why-length = byte-length given.why end (omega arith) in
     let place-length = wide-length given.place (refused_word ++ why) (omega arith) in
     let block-length = word-length given.block (space ++ placed) (omega arith) in
-    let behind = grown_first c.requires c.put_numbered-space.ensures (omega arith) in
+    let behind = grown_first {n = 64} (omega arith) c.put_numbered-space.ensures (omega arith) in
     let number = grown_more behind c.put_decimal-number.ensures (omega arith) in
     let word = grown_more number c.put_word-word.ensures (omega arith) in
     let place = grown_more word c.put_decimal-record.ensures (omega arith) in

@@ -5,26 +5,19 @@ use Rattle.families.proofs.Acks.{new-long, new_action, new-got, new-zero}
 use Rattle.families.proofs.ack.CommandAck.new.Goals as goal
 
 pub returns-then-information-gt-MAX_ACK_INFORMATION_LEN : goal.returns-then-information-gt-MAX_ACK_INFORMATION_LEN
-returns-then-information-gt-MAX_ACK_INFORMATION_LEN c = rw (new-long
-    (ack_with c.args.command_id c.args.sub_command_id
-    c.args.action) c.args.information.now
-    c.if-information-gt-MAX_ACK_INFORMATION_LEN.true) c.refused_with.ensures
+returns-then-information-gt-MAX_ACK_INFORMATION_LEN c =
+    rw (new-long (ack_with c.args.command_id c.args.sub_command_id c.args.action) c.args.information.now c.if-information-gt-MAX_ACK_INFORMATION_LEN.true)
 
 pub returns-then-action-gt1 : goal.returns-then-action-gt1
-returns-then-action-gt1 c = rw (new_action
-    (ack_with c.args.command_id
-    c.args.sub_command_id c.args.action)
-    c.args.information.now c.if-information-gt-MAX_ACK_INFORMATION_LEN.false c.if-action-gt1.true)
-    c.refused_with-then-action-gt1.ensures
+returns-then-action-gt1 c =
+    rw (new_action (ack_with c.args.command_id c.args.sub_command_id c.args.action) c.args.information.now c.if-information-gt-MAX_ACK_INFORMATION_LEN.false c.if-action-gt1.true)
 
-pub returns-then-all_nonzero : goal.returns-then-all_nonzero
-returns-then-all_nonzero c =
-    rw (new-got (ack_with c.args.command_id c.args.sub_command_id c.args.action)
-    c.args.information.now c.if-information-gt-MAX_ACK_INFORMATION_LEN.false c.if-action-gt1.false
-    (sym c.all_nonzero.ensures ∙ c.if-all_nonzero.true)) c.accepted.ensures
+pub returns-then-not-all_nonzero : goal.returns-then-not-all_nonzero
+returns-then-not-all_nonzero c =
+    rw (new-zero (ack_with c.args.command_id c.args.sub_command_id c.args.action) c.args.information.now
+    c.if-information-gt-MAX_ACK_INFORMATION_LEN.false c.if-action-gt1.false (sym c.all_nonzero.ensures ∙ c.if-not-all_nonzero.true))
 
 pub returns : goal.returns
 returns c =
-    rw (new-zero (ack_with c.args.command_id c.args.sub_command_id c.args.action)
-    c.args.information.now c.if-information-gt-MAX_ACK_INFORMATION_LEN.false c.if-action-gt1.false
-    (sym c.all_nonzero.ensures ∙ c.if-all_nonzero.false)) c.refused_with-2.ensures
+    rw (new-got (ack_with c.args.command_id c.args.sub_command_id c.args.action) c.args.information.now
+    c.if-information-gt-MAX_ACK_INFORMATION_LEN.false c.if-action-gt1.false (sym c.all_nonzero.ensures ∙ c.if-not-all_nonzero.false)) c.with_information.ensures

@@ -1,25 +1,9 @@
--- The popup constructor: what it refuses, and what it makes. Assumes nothing.
-use mathlib.Core.Path.{sym, ap}
-use mathlib.Core.List.{[]}
-use Rattle.codec.specs.Sheet.{Answer}
-use Rattle.codec.specs.Refusals.{number_in, value_in}
-use Rattle.families.specs.declared.screen.ScreenPopup.{ScreenPopup}
-use Rattle.families.specs.Fields.{construct, popup_of}
-use Rattle.families.proofs.PutFields.{blank_then}
+-- The popup constructor: what it refuses. Assumes nothing.
+use Rattle.std.proofs.lemmas.Result.{err_from_is_err_and}
+use Rattle.families.proofs.PutFields.{not_put}
 use Rattle.families.proofs.screen.ScreenPopup.new.Goals as goal
 
-pub put-requires : goal.put-requires
-put-requires c = sym (rw c.in-Accepted.is at c.judge.ensures)
-
-pub returns-in-Accepted : goal.returns-in-Accepted
-returns-in-Accepted c = (
-  ap (λ (a : Answer ScreenPopup). number_in a) c.put.ensures,
-  ap (λ (a : Answer ScreenPopup). value_in (popup_of []) a) c.put.ensures,
-)
-
-pub returns-in-Refused : goal.returns-in-Refused
-returns-in-Refused c = let h = rw c.in-Refused.is at c.judge.ensures in (
-  h,
-  blank_then (construct c.args.fields) (popup_of [])
-      c.in-Refused.r h,
-)
+pub returns-in_err-judge : goal.returns-in_err-judge
+returns-in_err-judge c =
+    let p = err_from_is_err_and c.from_residual.result c.from_residual.ensures.1 in
+    rw (p.1, p.2) (not_put c.args.fields _ c.in_err-judge.ensures)

@@ -1,5 +1,0 @@
--- `list_cases` meets its contract: each turn takes one from what is left. Assumes nothing.
-use Rattle.list_cases.proofs.list_cases.Given as goal
-
-abbrev pub decreases-loop-turns : goal.decreases-loop-turns
-decreases-loop-turns l = l.turns

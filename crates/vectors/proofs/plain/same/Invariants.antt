@@ -1,9 +1,0 @@
--- The tests before the loop bound every sum; the bytes that are left fall. Assumes nothing.
-use Rattle.std.proofs.Common.{◌-◌}
-use Rattle.vectors.proofs.plain.same.Given as goal
-
-abbrev pub invariant-loop-i : goal.invariant-loop-i
-invariant-loop-i l = Unit {0}
-
-abbrev pub decreases-loop-i : goal.decreases-loop-i
-decreases-loop-i l = l.n - l.i
