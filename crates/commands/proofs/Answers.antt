@@ -2,7 +2,7 @@
 use Rattle.std.specs.Prelude.{Ok, Err}
 use Prim.Native.Nat.{ℕ}
 use mathlib.Core.List.{List, []}
-use mathlib.Core.Path.{◌≡◌, refl, ap, ◌∙◌}
+use mathlib.Core.Path.{◌≡◌, refl, ap, subst, ◌∙◌}
 use native.Mathlib.Omega.{arith}
 use lib.ListN.{length, get_or}
 use Rattle.codec.specs.Sheet.{Answer, got, refused, and_then}
@@ -10,14 +10,14 @@ use Rattle.codec.specs.Refusals.{refusal_number, Gives}
 use Rattle.codec.specs.declared.refusal.Refusal.{Refusal}
 use Rattle.codec.proofs.Refused.{Some}
 use Rattle.families.specs.Text.{padded}
-use Rattle.families.specs.Ack.{acked}
+use Rattle.families.specs.Ack.{acked, read_ack, AckIs}
 use Rattle.families.specs.Popup.{write_popup}
-use Rattle.families.specs.Screen.{ScreenSaid, started, returned, screen_read}
+use Rattle.families.specs.Screen.{ScreenSaid, started, returned, screen_read, read_screen, ScreenIs}
 use Rattle.families.specs.declared.ack.AckRead.{AckRead}
 use Rattle.families.specs.declared.screen.ScreenRead.{ScreenRead}
 use Rattle.families.specs.declared.payload.CommandPayload.TheVariants.{Screen, Ack}
 use Rattle.commands.specs.Command.{WithStored, with_stored, command_of}
-use Rattle.commands.specs.Reading.{screen_with_stored, ack_with_stored}
+use Rattle.commands.specs.Reading.{read_as, screen_with_stored, ack_with_stored, CommandIs}
 use Rattle.commands.specs.declared.DirectCommands.{DirectCommands}
 
 -- a body with these addresses
@@ -59,3 +59,24 @@ pub ack_kept : {K : Type 0} (kept : WithStored → K) (a : Answer (List (List �
     → got k ≡ and_then a (λ vs. got (kept (ack_with_stored vs)))
 ack_kept kept (got vs) x k h g = ap got (g (get_or vs 3 []) (rw h) (rw h) ∙ rw h)
 ack_kept kept (refused n p) x k h g = absurd h
+
+-- so of whole commands with these addresses
+abbrev pub screen_command : ℕ → ℕ → ScreenRead → DirectCommands
+screen_command dst src x =
+    record { dst_addr = dst; src_addr = src; payload = Screen x.command; len = x.popup.len; bytes = x.popup.bytes }
+
+pub screen_got : (dst src : ℕ) (s : List ℕ) (x : ScreenRead) → ScreenIs (read_screen s) (Ok x)
+    → CommandIs (read_as dst src 0x22 s) (Ok (screen_command dst src x))
+screen_got dst src s x h =
+    subst (λ (a : Answer DirectCommands). CommandIs a (Ok (screen_command dst src x)))
+    (screen_kept (command_of dst src) (read_screen s) x (screen_command dst src x) h (λ t len bytes. rw (len, bytes))
+    ∙ kept_of (command_of dst src) (read_screen s) screen_with_stored) refl
+
+abbrev pub ack_command : ℕ → ℕ → AckRead → DirectCommands
+ack_command dst src x = record { dst_addr = dst; src_addr = src; payload = Ack x.ack; len = x.len; bytes = x.bytes }
+
+pub ack_got : (dst src : ℕ) (s : List ℕ) (x : AckRead) → AckIs (read_ack s) (Ok x) → CommandIs (read_as dst src 0xFF s) (Ok (ack_command dst src x))
+ack_got dst src s x h =
+    subst (λ (a : Answer DirectCommands). CommandIs a (Ok (ack_command dst src x)))
+    (ack_kept (command_of dst src) (read_ack s) x (ack_command dst src x) h (λ t len bytes. rw (len, bytes))
+    ∙ kept_of (command_of dst src) (read_ack s) ack_with_stored) refl

@@ -19,6 +19,7 @@ use Rattle.codec.specs.declared.refusal.Refusal.{Refusal}
 use Rattle.codec.proofs.Outcomes.{gives_one}
 use Rattle.codec.proofs.Writes.{refusal_some, written_told, written-told, out_told, free}
 use Rattle.families.specs.Payload.{family_id}
+use Rattle.commands.specs.Command.{blank_command}
 use Rattle.commands.specs.Reading.{read_command, CommandIs}
 use Rattle.commands.specs.Writing.{layout_of, writing_order, payload_of, stop_writing}
 use Rattle.commands.specs.Writing.Equation.{payload_is, stop_is}
@@ -36,6 +37,11 @@ room = replicate 7 0
 -- where nothing stops it, a writer counts its bytes and puts them in front
 earned : (r : Result ℕ Refusal) (w s s' : List ℕ) → Writes 0 w r s s' → (r ≡ Ok (length w)) × (s' ≡ sets s 0 w)
 earned r w s s' h = (sym (written-told r) ∙ ap written_told (out_told r 0 (length w) h.0), h.1)
+
+-- the command that an answer holds: with a refusal the blank one
+abbrev pub command_in : Result DirectCommands Refusal → DirectCommands
+command_in (Ok c) = c
+command_in (Err r) = blank_command
 
 module _ (κs : Lfts 1) where
   -- the contract of from_bytes allows this answer to these bytes
@@ -79,16 +85,13 @@ module _ (κs : Lfts 1) where
       let e = ap outcome_number (sym turned ∙ reads m1 disarm x m1_read h) in
       omega arith
 
-  -- ---- "answering one fixed command": not to both
-  pub answers_one : (x y : Result DirectCommands Refusal) → x ≡ y → Reads m1 x → Reads m3 y → ⊥
+  -- ---- "answering one fixed command": not to both. Whatever stands in place of a command beside a refusal counts as the blank one.
+  pub answers_one : (x y : Result DirectCommands Refusal) → command_in x ≡ command_in y → Reads m1 x → Reads m3 y → ⊥
   answers_one x y one h g =
-      let e = sym (reads m1 disarm x m1_read h) ∙ one ∙ reads m3 (frequency 5800) y m3_read g in
-      let f : family_id disarm.payload ≡ family_id (frequency 5800).payload = ap family_in e in
+      let e =
+      ap (λ (c : DirectCommands). family_id c.payload)
+      (sym (ap command_in (reads m1 disarm x m1_read h)) ∙ one ∙ ap command_in (reads m3 (frequency 5800) y m3_read g)) in
       omega arith
-    where
-      family_in : Result DirectCommands Refusal → ℕ
-      family_in (Ok c) = family_id c.payload
-      family_in (Err r) = 0
 
   -- ---- "or payload": not of both, in the same buffer
   pub leaves_one : (x y : Result ℕ Refusal) (s' : List ℕ) → Leaves disarm room x s' → Leaves (frequency 5800) room y s' → ⊥

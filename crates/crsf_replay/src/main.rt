@@ -4,7 +4,7 @@
 // which text it is.
 #![tactic(auto)]
 
-ghost use Rattle.std.specs.Prelude.{◌≡◌, ◌≤◌, IfOk, length};
+ghost use Rattle.std.specs.Prelude.{◌≡◌, ◌≤◌, length};
 ghost use Rattle.text.specs.Putting.{Front};
 ghost use Rattle.replay_lines.specs.Lines.{most_text};
 ghost use Rattle.replay_lines.specs.Replays.{After, block_text, behind_block};
@@ -46,24 +46,25 @@ fn write_closing(rt: &HostRuntime, blocks: u32, state: Replay, text: &[u8]) -> R
     write_out(rt, text)
 }
 
-// A block after so many: nothing waits for the next one. The answer is the state behind it.
+// A block after so many: nothing waits for the next one. The state goes behind it, also where its lines could not be written.
 fn replay_block(
     rt: &HostRuntime,
     position: u32,
-    state: Replay,
+    state: &mut Replay,
     block: &[u8],
     text: &mut [u8],
-) -> Result<Replay, Said>
-    requires { (most_text ≤ length text.old) × After position state }
-    ensures { IfOk result (λ after. after ≡ behind_block state position block.now) }
+) -> Result<(), Said>
+    requires { (most_text ≤ length text.old) × After position state.old }
+    ensures { state.new ≡ behind_block state.old position block.now }
 {
-    match replay_lines::list_block(state, position, block, text) {
+    let before = *state;
+    match replay_lines::list_block(before, position, block, text) {
         Ok(lines) => {
-            write_block(rt, position, state, block, &text[..lines.len])?;
-            Ok(lines.state)
+            *state = lines.state;
+            write_block(rt, position, before, block, &text[..lines.len])
         }
         // no lines, and the state as it was
-        Err(_) => Ok(state),
+        Err(_) => Ok(()),
     }
 }
 
@@ -122,7 +123,7 @@ fn replay_all(
         if len == 0 {
             return close(rt, position, state, text);
         }
-        state = replay_block(rt, position, state, &block[..len], text)?;
+        replay_block(rt, position, &mut state, &block[..len], text)?;
         if len < BLOCK_SIZE {
             return close(rt, position + 1, state, text);
         }

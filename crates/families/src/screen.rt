@@ -224,6 +224,8 @@ impl ScreenPopupFields {
     }
 }
 
+const NO_BYTES: Span = Span { at: 0, len: 0 };
+
 fn text_of(s: &[u8], span: Span) -> CommandString
     requires { SpanIn s.now span }
     ensures { result ≡ text_of (spanned s.now span) }
@@ -232,15 +234,12 @@ fn text_of(s: &[u8], span: Span) -> CommandString
     CommandString::of(&s[span.at..end])
 }
 
-// Blank where there is none.
+// Where there is none, that of no bytes.
 fn text_if(s: &[u8], span: Option<Span>) -> CommandString
     requires { IfSome span (λ x. SpanIn s.now x) }
     ensures { result ≡ text_of (spanned_if s.now span) }
 {
-    match span {
-        Some(span) => text_of(s, span),
-        None => BLANK_TEXT,
-    }
+    text_of(s, span.unwrap_or(NO_BYTES))
 }
 
 // The fields at the places of a parse.
@@ -270,15 +269,7 @@ fn fields_at(s: &[u8], places: Places) -> ScreenPopupFields
     }
 }
 
-fn whole_fields(s: &[u8]) -> Result<ScreenPopupFields, Refusal>
-    ensures { FieldsIs (whole (length s.now) (read_popup s.now 0)) result }
-{
-    match crate::popup::parse(s) {
-        Ok(places) if places.values.next == s.len() => Ok(fields_at(s, places)),
-        _ => Err(Refusal::RecordNotMade),
-    }
-}
-
+// The fields of the first n bytes, which are a popup to the last of them, with zeros behind.
 fn fields_in(s: &[u8], n: usize) -> Result<ScreenPopupFields, Refusal>
     requires { length s.now ≡ 55 }
     ensures { FieldsIs (inspect (record { len = n; bytes = s.now })) result }
@@ -286,7 +277,14 @@ fn fields_in(s: &[u8], n: usize) -> Result<ScreenPopupFields, Refusal>
     if MAX_POPUP_DATA_LEN < n || !crate::text::zero_after(s, n) {
         return Err(Refusal::RecordNotMade);
     }
-    whole_fields(&s[..n])
+    let popup = &s[..n];
+    let Ok(places) = crate::popup::parse(popup) else {
+        return Err(Refusal::RecordNotMade);
+    };
+    if places.values.next != n {
+        return Err(Refusal::RecordNotMade);
+    }
+    Ok(fields_at(popup, places))
 }
 
 impl ScreenPopup {

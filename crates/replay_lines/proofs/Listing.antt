@@ -128,10 +128,10 @@ module _ {s₀ s : Replay} {position n : ℕ} {b t₀ t : List ℕ} (g : Listing
         ∙ ap (λ (y : List ℕ). sets t₀ 0 y) (sym all_is)
 
     -- the block's last
-    pub listing-ends : r.state.place ≡ 0 → Lists (through s₀ position b) (Ok r) t₀ t'
+    pub listing-ends : r.state.place ≡ 0 → Lists s₀ (through s₀ position b) (Ok r) t₀ t'
     listing-ends z =
         let e = going-ends g.going said.1.0 (ap (λ (y : Replay). y.place) (sym state_is) ∙ z) in
-        subst (λ (a : Answer Replayed). Lists a (Ok r) t₀ t') (sym e) (record {
+        subst (λ (a : Answer Replayed). Lists s₀ a (Ok r) t₀ t') (sym e) (record {
           gives =
               ap (λ (y : Replay). record { state = y; len = r.len }) state_is
               ∙ ap (λ (m : ℕ). record { state = x.state; len = m }) (sym size_is);
@@ -166,7 +166,7 @@ module _ {s₀ s : Replay} {position n : ℕ} {b t₀ t : List ℕ} (g : Listing
 
   -- a step refuses: it is the first
   module _ {t' : List ℕ} (why : Refusal) (p : PutsStep (step_of s position b) n (Err why) t t') where
-    stopped : (x.says ≡ refused 5 0) × (refusal_number why ≡ 5)
+    stopped : (x.says ≡ refused 5 0) × ((x.state ≡ s) × (refusal_number why ≡ 5))
     stopped = says-stops _ (step-says s position b) why p.gives
 
     none_is : step_text x ≡ []
@@ -175,16 +175,16 @@ module _ {s₀ s : Replay} {position n : ℕ} {b t₀ t : List ℕ} (g : Listing
     keeps : t' ≡ t
     keeps = p.puts.put.leaves ∙ ap (λ (w : List ℕ). put_at t n w) none_is ∙ none_put t n
 
-    pub listing-stops : (out : Result Lines Refusal) → out ≡ Err why → Lists (through s₀ position b) out t₀ t'
+    pub listing-stops : (out : Result Lines Refusal) → out ≡ Err why → Lists s₀ (through s₀ position b) out t₀ t'
     listing-stops out o =
         let e = going-stops g.going 5 0 stopped.0 in
-        subst (λ (r : Result Lines Refusal). Lists (through s₀ position b) r t₀ t') (sym o)
-        (subst (λ (a : Answer Replayed). Lists a (Err why) t₀ t') (sym e) (by e g.begun))
+        subst (λ (r : Result Lines Refusal). Lists s₀ (through s₀ position b) r t₀ t') (sym o)
+        (subst (λ (a : Answer Replayed). Lists s₀ a (Err why) t₀ t') (sym e) (by e g.begun))
       where
-        by : through s₀ position b ≡ refused 5 0 → Begun s₀ position b s g.so_far → Lists (refused 5 0) (Err why) t₀ t'
+        by : through s₀ position b ≡ refused 5 0 → Begun s₀ position b s g.so_far → Lists s₀ (refused 5 0) (Err why) t₀ t'
         by e (later f) = let z : ◌≡◌ {A = ℕ} 0 5 = sym f ∙ ap number_in e in absurd (omega arith)
         by e (first f d) = record {
-          gives = stopped.1;
+          gives = stopped.1.1;
           fits = omega arith;
           leaves = keeps ∙ g.leaves ∙ ap (λ (es : List Event). sets t₀ 0 (text_of_all es)) d;
         }
@@ -194,7 +194,7 @@ pub none_puts : (s : Replay) (position : ℕ) (b t : List ℕ) (n : ℕ) (why : 
     → StepIs (step_of s position b) (Err why) → PutsStep (step_of s position b) n out t t
 none_puts s position b t n why out o h =
     let e = says-stops _ (step-says s position b) why h in
-    subst (λ (r : Result Lines Refusal). PutsStep (step_of s position b) n r t t) (sym o) (by (step_of s position b) e.0 e.1)
+    subst (λ (r : Result Lines Refusal). PutsStep (step_of s position b) n r t t) (sym o) (by (step_of s position b) e.0 e.1.1)
   where
     by : (x : Stepped) → x.says ≡ refused 5 0 → refusal_number why ≡ 5 → PutsStep x n (Err why) t t
     by x f g =
@@ -225,23 +225,23 @@ step_puts x at k r {t} {t'} h p =
 
 -- ---- the room, and the steps tried first
 module _ (s : Replay) (position : ℕ) (b t : List ℕ) where
-  pub lists_short : length t < most_text → Lists (listed s position b t) (Err BufferOverflow) t t
+  pub lists_short : length t < most_text → Lists s (listed s position b t) (Err BufferOverflow) t t
   unfolding listed
   lists_short h =
-      subst (λ (z : Bool). Lists (pick z (refused 3 0) (through s position b)) (Err BufferOverflow) t t) (sym (lt-ltb (length t) most_text h))
+      subst (λ (z : Bool). Lists s (pick z (refused 3 0) (through s position b)) (Err BufferOverflow) t t) (sym (lt-ltb (length t) most_text h))
       (record { gives = refl; fits = omega arith; leaves = refl })
 
-  pub lists_there : {r : Result Lines Refusal} {t' : List ℕ} → most_text ≤ length t → Lists (through s position b) r t t'
-      → Lists (listed s position b t) r t t'
+  pub lists_there : {r : Result Lines Refusal} {t' : List ℕ} → most_text ≤ length t → Lists s (through s position b) r t t'
+      → Lists s (listed s position b t) r t t'
   unfolding listed
   lists_there {r} {t'} h l =
-      subst (λ (z : Bool). Lists (pick z (refused 3 0) (through s position b)) r t t') (sym (le-ltb (length t) most_text h)) l
+      subst (λ (z : Bool). Lists s (pick z (refused 3 0) (through s position b)) r t t') (sym (le-ltb (length t) most_text h)) l
 
   pub lists_tried : (why : Refusal) (out : Result Lines Refusal) → out ≡ Err why → refusal_number why ≡ number_in (through s position b)
-      → Lists (through s position b) out t t
-  lists_tried why out o h = subst (λ (r : Result Lines Refusal). Lists (through s position b) r t t) (sym o) (by (through s position b) h)
+      → Lists s (through s position b) out t t
+  lists_tried why out o h = subst (λ (r : Result Lines Refusal). Lists s (through s position b) r t t) (sym o) (by (through s position b) h)
     where
-      by : (a : Answer Replayed) → refusal_number why ≡ number_in a → Lists a (Err why) t t
+      by : (a : Answer Replayed) → refusal_number why ≡ number_in a → Lists s a (Err why) t t
       by (got x) f = absurd (omega (arith, refusal_some why))
       by (refused n p) f = record { gives = f; fits = omega arith; leaves = refl }
 

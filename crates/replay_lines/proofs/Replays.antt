@@ -125,15 +125,15 @@ module _ {k : ℕ} {s : Replay} (a : After k s) where
     unfolding listed
     is = ap (λ (z : Bool). pick z (refused 3 0) (through s k b)) (le-ltb (length t) most_text much) ∙ one_block s k b limits at_rest
 
-    given : (r : Result Lines Refusal) → Lists (listed s k b t) r t t'
-        → Lists (got (replayed (events_of (before_of s) (handed k b ∷ [])) (behind_block s k b))) r t t'
-    given r l = subst (λ (x : Answer Replayed). Lists x r t t') is l
+    given : (r : Result Lines Refusal) → Lists s (listed s k b t) r t t'
+        → Lists s (got (replayed (events_of (before_of s) (handed k b ∷ [])) (behind_block s k b))) r t t'
+    given r l = subst (λ (x : Answer Replayed). Lists s x r t t') is l
 
     -- it refuses none
-    pub block_not_refused : (why : Refusal) → Lists (listed s k b t) (Err why) t t' → ⊥
+    pub block_not_refused : (why : Refusal) → Lists s (listed s k b t) (Err why) t t' → ⊥
     block_not_refused why l = (given (Err why) l).gives
 
-    module _ (r : Lines) (l : Lists (listed s k b t) (Ok r) t t') where
+    module _ (r : Lines) (l : Lists s (listed s k b t) (Ok r) t t') where
       pub block-state : r.state ≡ behind_block s k b
       block-state = ap (λ (x : Lines). x.state) (given (Ok r) l).gives
 

@@ -94,10 +94,10 @@ module _ {B : Type 0} {s : Replay} {x : Stepped} (shown : Event → B) (y : Says
           let e : refused 5 0 ≡ got g.0 = sym f ∙ g.1.0 in
           let z : ◌≡◌ {A = ℕ} 0 1 = cc in absurd (omega arith)
 
-  pub says-stops : (why : Refusal) → Gives shown x.says (Err why) → (x.says ≡ refused 5 0) × (refusal_number why ≡ 5)
+  pub says-stops : (why : Refusal) → Gives shown x.says (Err why) → (x.says ≡ refused 5 0) × ((x.state ≡ s) × (refusal_number why ≡ 5))
   says-stops why h = by y
     where
-      by : Says s x → (x.says ≡ refused 5 0) × (refusal_number why ≡ 5)
+      by : Says s x → (x.says ≡ refused 5 0) × ((x.state ≡ s) × (refusal_number why ≡ 5))
       by (on e f w) =
           let g = gives_err shown x.says why h in
           let c : got e ≡ refused (refusal_number why) g.0 = sym f ∙ g.1 in
@@ -105,7 +105,7 @@ module _ {B : Type 0} {s : Replay} {x : Stepped} (shown : Event → B) (y : Says
       by (stops f w) =
           let g = gives_err shown x.says why h in
           let c : refused 5 0 ≡ refused (refusal_number why) g.0 = sym f ∙ g.1 in
-          let n : 5 ≡ refusal_number why = cc in (f, sym n)
+          let n : 5 ≡ refusal_number why = cc in (f, (w, sym n))
 
 -- ---- the steps of a block: what was told so far, before those to come
 abbrev pub behind : List Event → Answer Replayed → Answer Replayed
@@ -208,7 +208,7 @@ module _ {s₀ s : Replay} {position : ℕ} {b : List ℕ} {so_far : List Event}
       → outcome_number out ≡ number_in (through s₀ position b)
   tried-stops why out o h =
       let e = says-stops _ (step-says s position b) why h in
-      ap outcome_number o ∙ e.1 ∙ sym (ap number_in (going-stops g 5 0 e.0))
+      ap outcome_number o ∙ e.1.1 ∙ sym (ap number_in (going-stops g 5 0 e.0))
 
 -- ---- a state between blocks: THE theorem of any blocks, of one
 alone : (a : Answer Replayed) → and_then a (λ r. got (replayed (events_in r ++ []) (state_in r))) ≡ a

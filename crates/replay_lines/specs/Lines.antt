@@ -32,20 +32,20 @@ abbrev pub state_after : Replay → Answer Replayed → Replay
 state_after s (got (replayed es s')) = s'
 state_after s (refused n p) = s
 
--- the state and the length that go with it
-abbrev pub lines_of : Replayed → Lines
-lines_of (replayed es s) = record { state = s; len = length (text_of_all es) }
+-- the state after them and the length that go with it, from a state s on
+abbrev pub lines_of : Replay → Replayed → Lines
+lines_of s x = record { state = state_after s (got x); len = length (text_in (got x)) }
 
--- LISTING what comes of a state, in the text t, answers r and leaves t': the text at the front, and the rest keeps its bytes; where it is
+-- LISTING what comes of a state s, in the text t, answers r and leaves t': the text at the front, and the rest keeps its bytes; where it is
 -- refused, all of t does, and the state stays with the caller as it was
-pub record Lists (a : Answer Replayed) (r : Result Lines Refusal) (t t' : List ℕ) : Type 0 where
-  pub gives : Gives lines_of a r
+pub record Lists (s : Replay) (a : Answer Replayed) (r : Result Lines Refusal) (t t' : List ℕ) : Type 0 where
+  pub gives : Gives (lines_of s) a r
   pub fits : length (text_in a) ≤ length t
   pub leaves : t' ≡ sets t 0 (text_in a)
 
 -- the events of the block b: all of t is their room
 abbrev pub ListsBlock : Replay → ℕ → List ℕ → Result Lines Refusal → List ℕ → List ℕ → Type 0
-ListsBlock s position b r t t' = Lists (listed s position b t) r t t'
+ListsBlock s position b r t t' = Lists s (listed s position b t) r t t'
 
 -- ---- For contracts of private functions, nobody has to believe what follows.
 -- where the first step does not refuse, none does

@@ -66,7 +66,7 @@ fn put_step(
 // From a state that is refused at once, or from which no step refuses.
 fn list_steps(state: Replay, position: u32, block: &[u8], text: &mut [u8]) -> Result<Lines, Refusal>
     requires { (most_text ≤ length text.old) × OnceOn state position block.now }
-    ensures { Lists (through state position block.now) result text.old text.new }
+    ensures { Lists state (through state position block.now) result text.old text.new }
 {
     let mut lines = Lines { state, len: 0 };
     // each step goes on behind the one before it: nothing is counted

@@ -6,8 +6,8 @@ use Rattle.crsf_replay.proofs.replay_all.Goals as goal
 
 pub close-requires-then-len-lt-BLOCK_SIZE : goal.close-requires-then-len-lt-BLOCK_SIZE
 close-requires-then-len-lt-BLOCK_SIZE c =
-    (search rules, after_more c.loop-position.invariant.0 (take c.in_ok-len.len c.read_block.new.block) _ c.in_ok-state.ensures)
+    (search rules, after_more c.loop-position.invariant.0 (take c.in_ok-len.len c.read_block.new.block) _ c.replay_block.ensures)
 
 pub loop-position-preserved : goal.loop-position-preserved
 loop-position-preserved c =
-    (after_more c.loop-position.invariant.0 (take c.in_ok-len.len c.read_block.new.block) _ c.in_ok-state.ensures, search rules)
+    (after_more c.loop-position.invariant.0 (take c.in_ok-len.len c.read_block.new.block) _ c.replay_block.ensures, search rules)

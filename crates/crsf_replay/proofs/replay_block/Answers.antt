@@ -9,8 +9,8 @@ write_block-requires c =
       (block-handed c.requires.1 given.block.now given.text.now _ c.requires.0 c.in-Ok.lines c.in-Ok.ensures).bytes,
     )
 
-pub returns-in_ok-write_block-in-Ok : goal.returns-in_ok-write_block-in-Ok
-returns-in_ok-write_block-in-Ok c =
+pub returns-in-Ok : goal.returns-in-Ok
+returns-in-Ok c =
     let given = c.args in
     block-state c.requires.1 given.block.now given.text.now _ c.requires.0 c.in-Ok.lines c.in-Ok.ensures
 
